@@ -1,0 +1,125 @@
+-- Laws of the bits of numbers and bytes: packing and taking apart undo each other. Assumes nothing.
+use mathlib.Core.Path.{_≡_, refl, sym, ap, _∙_}
+use mathlib.Core.List.{List}
+use Prim.Native.Nat.{ℕ, zero, suc, _+_, _-_, _*_, _/_, _%_, _^_, _≤_, _<_}
+use native.Mathlib.Nat.{add-zero, mul-assoc, eq-or-lt-of-le, le-of-suc-le-suc, not-suc-le-zero}
+use mathlib.Core.Logic.{_⊎_, inl, inr}
+use native.Mathlib.Numerals.{add-one, one-add}
+use native.Mathlib.Omega.{arith}
+use lib.Arith.{digits-div, digits-mod}
+use lib.ListN.{length, getD}
+use lib.Pow.{pow-pos, pow-add, shr-shr, mod-pow-add}
+use lib.Seq.{ext-getD}
+use Rattle.bits.specs.Lists.{tabulate}
+use Rattle.bits.specs.Bits.{bitAt, bitOf, pack, byteOf, field, bitsOf, bytesOf}
+use Rattle.bits.proofs.ListLaws.{length-tabulate, getD-tabulate, tabulate-of, tabulate-ext}
+
+-- each of the bits d is 0 or 1
+abbrev pub Binary : ℕ → (ℕ → ℕ) → Type 0
+Binary n d = (j : ℕ) → j < n → d j < 2
+
+pub pack-next : (n : ℕ) (d : ℕ → ℕ) → pack (n + 1) d ≡ pack n d * 2 + d n
+unfolding pack
+pack-next n d = rw add-one
+
+pub pack-ext : (n : ℕ) (d e : ℕ → ℕ) → ((j : ℕ) → j < n → d j ≡ e j) → pack n d ≡ pack n e
+unfolding pack
+pack-ext zero d e h = refl
+pack-ext (suc n) d e h = rw (pack-ext n d e (λ j l. h j (omega arith)), h n (omega arith))
+
+pow-suc : (n : ℕ) → 2 ^ suc n ≡ 2 ^ n * 2
+pow-suc n = ap (λ (k : ℕ). 2 ^ k) (sym (add-one n)) ∙ pow-add 2 n 1
+
+pub pack-lt : (n : ℕ) (d : ℕ → ℕ) → Binary n d → pack n d < 2 ^ n
+unfolding pack
+pack-lt zero d h = omega arith
+pack-lt (suc n) d h = omega (arith, pow-suc n, pack-lt n d (λ j l. h j (omega arith)), h n (omega arith))
+
+-- n bits, and then m: the number of the first shifted up by m
+pub pack-append : (n m : ℕ) (d : ℕ → ℕ) → pack (n + m) d ≡ pack n d * 2 ^ m + pack m (λ j. d (n + j))
+unfolding pack
+pack-append n zero d = rw add-zero (omega arith)
+pack-append n (suc m) d = rw add-suc-right (omega (arith, pack-append n m d, pow-suc m, spread))
+  where
+    add-suc-right : n + suc m ≡ suc (n + m)
+    add-suc-right = omega arith
+
+    spread : pack n d * 2 ^ suc m ≡ pack n d * 2 ^ m * 2
+    spread = ap (λ (p : ℕ). pack n d * p) (pow-suc m) ∙ sym (mul-assoc (pack n d) (2 ^ m) 2)
+
+bit-up : (k x b : ℕ) → b < 2 → bitAt (suc k) (x * 2 + b) ≡ bitAt k x
+bit-up k x b h =
+    ap (λ (j : ℕ). (x * 2 + b) / 2 ^ j % 2) (sym (one-add k)) ∙ ap (λ (y : ℕ). y % 2) (sym (shr-shr (x * 2 + b) 1 k))
+    ∙ ap (λ (y : ℕ). y / 2 ^ k % 2) (digits-div x h)
+
+-- a bit of a packed number
+pub bit-pack : (n : ℕ) (d : ℕ → ℕ) → Binary n d → (j : ℕ) → j < n → bitAt (n - 1 - j) (pack n d) ≡ d j
+unfolding pack
+bit-pack zero d h j l = absurd (not-suc-le-zero l)
+bit-pack (suc n) d h j l = go (eq-or-lt-of-le (le-of-suc-le-suc l)) (bit-pack n d (λ j l. h j (omega arith)) j)
+  where
+    go : (j ≡ n) ⊎ (j < n) → (j < n → bitAt (n - 1 - j) (pack n d) ≡ d j) → bitAt (suc n - 1 - j) (pack n d * 2 + d n) ≡ d j
+    go (inl e) ih =
+        let z : suc n - 1 - j ≡ 0 = omega arith in
+        rw (z, e) (omega (arith, h n (omega arith)))
+    go (inr b) ih =
+        let z : suc n - 1 - j ≡ suc (n - 1 - j) = omega arith in
+        rw z (bit-up (n - 1 - j) (pack n d) (d n) (h n (omega arith)) ∙ ih b)
+
+-- the bits of a number, packed again
+pub pack-bits : (n x : ℕ) → pack n (λ j. bitAt (n - 1 - j) x) ≡ x % 2 ^ n
+unfolding pack
+pack-bits zero x = omega arith
+pack-bits (suc n) x =
+    rw (pack-ext n _ (λ j. bitAt (n - 1 - j) (x / 2)) below, pack-bits n (x / 2), last)
+    (omega (arith, mod-pow-add x n 1, pow-suc n, ap (λ (k : ℕ). x % 2 ^ k) (add-one n)))
+  where
+    last : suc n - 1 - n ≡ 0
+    last = omega arith
+
+    below : (j : ℕ) → j < n → bitAt (suc n - 1 - j) x ≡ bitAt (n - 1 - j) (x / 2)
+    below j h =
+        let z : suc n - 1 - j ≡ 1 + (n - 1 - j) = omega arith in
+        rw (z, ← shr-shr x 1 (n - 1 - j))
+
+-- ---- bytes
+
+-- a byte's bits, packed again, are the byte
+pub byte-bits : (bytes : List ℕ) (k : ℕ) → getD bytes k 0 < 256 → byteOf (bitOf bytes) k ≡ getD bytes k 0
+unfolding byteOf bitOf
+byte-bits bytes k h =
+    pack-ext 8 _ (λ j. bitAt (8 - 1 - j) (getD bytes k 0)) same ∙ pack-bits 8 (getD bytes k 0) ∙ omega arith
+  where
+    same : (j : ℕ) → j < 8 → bitAt (7 - (8 * k + j) % 8) (getD bytes ((8 * k + j) / 8) 0) ≡ bitAt (8 - 1 - j) (getD bytes k 0)
+    same j l =
+        let q : (8 * k + j) / 8 ≡ k = omega arith in
+        let r : 7 - (8 * k + j) % 8 ≡ 8 - 1 - j = omega arith in
+        rw (q, r)
+
+pub bit-binary : (bytes : List ℕ) (i : ℕ) → bitOf bytes i < 2
+unfolding bitOf
+bit-binary bytes i = omega arith
+
+pub byte-lt : (d : ℕ → ℕ) (k : ℕ) → Binary 8 (λ j. d (8 * k + j)) → byteOf d k < 256
+unfolding byteOf
+byte-lt d k h = pack-lt 8 (λ j. d (8 * k + j)) h
+
+-- the bits of packed bytes are the bits that were packed
+pub bits-bytes : (n : ℕ) (d : ℕ → ℕ) → Binary (8 * n) d → (i : ℕ) → i < 8 * n → bitOf (bytesOf n d) i ≡ d i
+unfolding bytesOf bitOf byteOf
+bits-bytes n d h i l =
+    let k : i / 8 < n = omega arith in
+    let m : 7 - i % 8 ≡ 8 - 1 - i % 8 = omega arith in
+    let e : 8 * (i / 8) + i % 8 ≡ i = omega arith in
+    rw (getD-tabulate n (λ k. pack 8 (λ j. d (8 * k + j))) (i / 8) 0 k, m)
+    (bit-pack 8 (λ j. d (8 * (i / 8) + j)) (λ j b. h (8 * (i / 8) + j) (omega arith)) (i % 8) (omega arith) ∙ ap d e)
+
+-- the bytes of some bytes' bits are those bytes
+pub bytes-bits : (bytes : List ℕ) → ((k : ℕ) → getD bytes k 0 < 256) → bytesOf (length bytes) (bitOf bytes) ≡ bytes
+unfolding bytesOf
+bytes-bits bytes h = sym (tabulate-of (length bytes) (byteOf (bitOf bytes)) 0 bytes refl (λ k l. sym (byte-bits bytes k (h k))))
+
+-- two lists of as many bytes with the same bits are the same
+pub same-bits : (n : ℕ) (d e : ℕ → ℕ) → ((i : ℕ) → i < 8 * n → d i ≡ e i) → bytesOf n d ≡ bytesOf n e
+unfolding bytesOf byteOf
+same-bits n d e h = tabulate-ext n _ _ (λ k l. pack-ext 8 _ _ (λ j b. h (8 * k + j) (omega arith)))

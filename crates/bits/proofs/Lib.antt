@@ -1,0 +1,5 @@
+pub mod ListLaws
+pub mod BitLaws
+pub mod SumLaws
+pub mod PermutationLaws
+pub mod RangeLaws

@@ -1,0 +1,164 @@
+-- Laws of lists given by an index function, of buffers written from the front, and of searches. Assumes nothing.
+use mathlib.Core.Path.{_≡_, refl, sym, ap, _∙_}
+use mathlib.Core.Bool.{Bool, true, false, cond}
+use mathlib.Core.List.{List, [], _∷_, _++_, append-assoc, append-nil}
+use mathlib.Core.Logic.{_⊎_, inl, inr}
+use Prim.Native.Nat.{ℕ, zero, suc, _+_, _≤_, _<_}
+use native.Mathlib.Nat.{eq-or-lt-of-le, le-of-suc-le-suc, not-suc-le-zero, le-of-eq}
+use native.Mathlib.Decide.{ℕ-discrete}
+use native.Mathlib.Numerals.{add-one}
+use native.Mathlib.Omega.{arith}
+use lib.Dec.{ltb}
+use lib.ListN.{length, getD, drop, set, replicate, length-append, length-drop, length-set, length-replicate, getD-replicate, List·getD-append, drop-of-length-le}
+use lib.Seq.{ext-getD, getD-set-same, getD-set-other, drop-cons, set-at, getD-at, getD-append-add, getD-drop}
+use borrow.Author.Tests.{lt-ltb, le-ltb}
+use Rattle.bits.specs.Lists.{tabulate, written, lowest, firstAbove}
+
+module _ {A : Type 0} where
+  pub length-tabulate : (n : ℕ) (f : ℕ → A) → length (tabulate n f) ≡ n
+  unfolding tabulate
+  length-tabulate zero f = refl
+  length-tabulate (suc n) f = simp length-append (rw (length-tabulate n f) (add-one n))
+
+  pub getD-tabulate : (n : ℕ) (f : ℕ → A) (i : ℕ) (d : A) → i < n → getD (tabulate n f) i d ≡ f i
+  unfolding tabulate
+  getD-tabulate zero f i d h = absurd (not-suc-le-zero h)
+  getD-tabulate (suc n) f i d h = go (eq-or-lt-of-le (le-of-suc-le-suc h)) (getD-tabulate n f i d)
+    where
+      go : (i ≡ n) ⊎ (i < n) → (i < n → getD (tabulate n f) i d ≡ f i) → getD (tabulate n f ++ (f n ∷ [])) i d ≡ f i
+      go (inl e) ih = rw e (getD-at (tabulate n f) (f n) [] d n (length-tabulate n f))
+      go (inr l) ih = List·getD-append (tabulate n f) (f n ∷ []) d i (rw (length-tabulate n f) l) ∙ ih l
+
+  -- a list that has n elements, each as f gives it, is f's
+  pub tabulate-of : (n : ℕ) (f : ℕ → A) (d : A) (xs : List A) → length xs ≡ n → ((i : ℕ) → i < n → getD xs i d ≡ f i) → xs ≡ tabulate n f
+  tabulate-of n f d xs l h =
+      ext-getD d xs (tabulate n f) (l ∙ sym (length-tabulate n f)) (λ i b. let c : i < n = omega arith in h i c ∙ sym (getD-tabulate n f i d c))
+
+  -- the same elements give the same list
+  pub tabulate-ext : (n : ℕ) (f g : ℕ → A) → ((i : ℕ) → i < n → f i ≡ g i) → tabulate n f ≡ tabulate n g
+  unfolding tabulate
+  tabulate-ext zero f g h = refl
+  tabulate-ext (suc n) f g h = rw (tabulate-ext n f g (λ i l. h i (omega arith)), h n (omega arith))
+
+  pub tabulate-list : (d : A) (xs : List A) → tabulate (length xs) (λ k. getD xs k d) ≡ xs
+  tabulate-list d xs = sym (tabulate-of (length xs) (λ k. getD xs k d) d xs refl (λ i h. refl))
+
+  -- two lists that differ at i alone
+  pub tabulate-set : (n i : ℕ) (v : A) (f g : ℕ → A) → i < n → g i ≡ v → ((k : ℕ) → (k ≡ i → ⊥) → g k ≡ f k) → set (tabulate n f) i v ≡ tabulate n g
+  tabulate-set n i v f g h e o =
+      tabulate-of n g v (set (tabulate n f) i v) (length-set (tabulate n f) i v ∙ length-tabulate n f) (λ k l. at k l (ℕ-discrete k i))
+    where
+      at : (k : ℕ) → k < n → Dec (k ≡ i) → getD (set (tabulate n f) i v) k v ≡ g k
+      at k l (yes s) = rw s (getD-set-same (tabulate n f) i v v (rw length-tabulate h) ∙ sym e)
+      at k l (no d) = getD-set-other (tabulate n f) i k v v d ∙ getD-tabulate n f k v l ∙ sym (o k d)
+
+  pub tabulate-replicate : (n : ℕ) (a : A) → replicate n a ≡ tabulate n (λ k. a)
+  tabulate-replicate n a = tabulate-of n (λ k. a) a (replicate n a) (length-replicate n a) (λ i h. getD-replicate n i a a h)
+
+  -- nothing is written yet
+  pub written-none : (f : ℕ → A) (out : List A) → out ≡ written 0 f out
+  unfolding written tabulate
+  written-none f out = refl
+
+  pub length-written : (n : ℕ) (f : ℕ → A) (out : List A) → n ≤ length out → length (written n f out) ≡ length out
+  unfolding written
+  length-written n f out h = simp (length-append, length-tabulate, length-drop) (omega arith)
+
+  -- what stands at a place that is written, and at one that is not
+  pub getD-written : (n : ℕ) (f : ℕ → A) (out : List A) (i : ℕ) (d : A) → i < n → getD (written n f out) i d ≡ f i
+  unfolding written
+  getD-written n f out i d h =
+      List·getD-append (tabulate n f) (drop n out) d i (rw (length-tabulate n f) h) ∙ getD-tabulate n f i d h
+
+  -- a loop's turn: the value that belongs at n is stored there
+  pub written-next : (n : ℕ) (v : A) (f : ℕ → A) (out now : List A) → now ≡ written n f out → n < length out → v ≡ f n → set now n v ≡ written (n + 1) f out
+  unfolding written tabulate
+  written-next n v f out now e h g =
+      rw (add-one, e, g)
+      (ap (λ (l : List A). set (tabulate n f ++ l) n (f n)) (drop-cons out n v h)
+      ∙ set-at (tabulate n f) (getD out n v) (drop (suc n) out) (f n) n (length-tabulate n f)
+      ∙ sym (append-assoc (tabulate n f) (f n ∷ []) (drop (suc n) out)))
+
+  -- a loop's end
+  pub written-all : (n m : ℕ) (f : ℕ → A) (out now : List A) → now ≡ written n f out → n ≡ m → now ≡ written m f out
+  written-all n m f out now e g = rw (← g) e
+
+  -- the same elements are written
+  pub written-ext : (n : ℕ) (f g : ℕ → A) (out : List A) → ((i : ℕ) → i < n → f i ≡ g i) → written n f out ≡ written n g out
+  unfolding written
+  written-ext n f g out h = ap (λ (l : List A). l ++ drop n out) (tabulate-ext n f g h)
+
+  -- a loop's end, at a buffer that is written whole
+  pub written-whole : (n m : ℕ) (f : ℕ → A) (out now : List A) → now ≡ written n f out → n ≡ m → length out ≡ m → now ≡ tabulate m f
+  unfolding written
+  written-whole n m f out now e g h = e ∙ rw (g, drop-of-length-le out (le-of-eq h)) (append-nil (tabulate m f))
+
+  -- a loop's end, where a list is put at the start of a buffer element by element
+  pub written-put : (n : ℕ) (d : A) (xs out now : List A) → now ≡ written n (λ k. getD xs k d) out → n ≡ length xs → now ≡ xs ++ drop (length xs) out
+  unfolding written
+  written-put n d xs out now e g = e ∙ rw (g, tabulate-list d xs)
+
+  -- a list put at the start of a buffer
+  pub written-list : (n : ℕ) (f : ℕ → A) (xs out : List A) → xs ≡ tabulate n f → xs ++ drop (length xs) out ≡ written n f out
+  unfolding written
+  written-list n f xs out e = rw (e, length-tabulate)
+
+-- ---- the lowest number at which a test holds
+
+pub lowest-here : (n : ℕ) (t : ℕ → Bool) (i : ℕ) → i < n → ((k : ℕ) → k < i → t k ≡ false) → t i ≡ true → lowest n t ≡ i
+unfolding lowest
+lowest-here zero t i h none e = absurd (not-suc-le-zero h)
+lowest-here (suc n) t zero h none e = rw e
+lowest-here (suc n) t (suc i) h none e =
+    rw (none zero (omega arith)) (ap suc (lowest-here n (λ k. t (suc k)) i (le-of-suc-le-suc h) (λ k l. none (suc k) (omega arith)) e))
+
+pub lowest-none : (n : ℕ) (t : ℕ → Bool) → ((k : ℕ) → k < n → t k ≡ false) → lowest n t ≡ n
+unfolding lowest
+lowest-none zero t none = refl
+lowest-none (suc n) t none = rw (none zero (omega arith)) (ap suc (lowest-none n (λ k. t (suc k)) (λ k l. none (suc k) (omega arith))))
+
+-- below the lowest the test fails, at it the test holds, and it is at most n
+pub lowest-below : (n : ℕ) (t : ℕ → Bool) (k : ℕ) → k < lowest n t → t k ≡ false
+unfolding lowest
+lowest-below zero t k h = absurd (not-suc-le-zero h)
+lowest-below (suc n) t k h = go (t zero) refl k h (lowest-below n (λ j. t (suc j)))
+  where
+    go : (b : Bool) → t zero ≡ b → (k : ℕ) → k < cond b zero (suc (lowest n (λ j. t (suc j))))
+        → ((j : ℕ) → j < lowest n (λ j. t (suc j)) → t (suc j) ≡ false) → t k ≡ false
+    go true e k l ih = absurd (not-suc-le-zero l)
+    go false e zero l ih = e
+    go false e (suc k) l ih = ih k (le-of-suc-le-suc l)
+
+pub lowest-at : (n : ℕ) (t : ℕ → Bool) → lowest n t < n → t (lowest n t) ≡ true
+unfolding lowest
+lowest-at zero t h = absurd (not-suc-le-zero h)
+lowest-at (suc n) t h = go (t zero) refl h (lowest-at n (λ j. t (suc j)))
+  where
+    go : (b : Bool) → t zero ≡ b → cond b zero (suc (lowest n (λ j. t (suc j)))) < suc n
+        → (lowest n (λ j. t (suc j)) < n → t (suc (lowest n (λ j. t (suc j)))) ≡ true) → t (cond b zero (suc (lowest n (λ j. t (suc j))))) ≡ true
+    go true e l ih = e
+    go false e l ih = ih (le-of-suc-le-suc l)
+
+pub lowest-le : (n : ℕ) (t : ℕ → Bool) → lowest n t ≤ n
+unfolding lowest
+lowest-le zero t = omega arith
+lowest-le (suc n) t = go (t zero) (lowest-le n (λ j. t (suc j)))
+  where
+    go : (b : Bool) → lowest n (λ j. t (suc j)) ≤ n → cond b zero (suc (lowest n (λ j. t (suc j)))) ≤ suc n
+    go true ih = omega arith
+    go false ih = omega arith
+
+pub lowest-ext : (n : ℕ) (t u : ℕ → Bool) → ((k : ℕ) → k < n → t k ≡ u k) → lowest n t ≡ lowest n u
+unfolding lowest
+lowest-ext zero t u h = refl
+lowest-ext (suc n) t u h = rw (h zero (omega arith), lowest-ext n (λ k. t (suc k)) (λ k. u (suc k)) (λ k l. h (suc k) (omega arith)))
+
+-- a search from the front: nothing above the limit was passed, and then it is here, or there is none
+pub first-here : (limit : ℕ) (xs : List ℕ) (i : ℕ) → i < length xs → ((k : ℕ) → k < i → getD xs k 0 ≤ limit) → limit < getD xs i 0 → i ≡ firstAbove limit xs
+unfolding firstAbove
+first-here limit xs i h none a =
+    sym (lowest-here (length xs) (λ k. ltb limit (getD xs k 0)) i h (λ k l. le-ltb limit (getD xs k 0) (none k l)) (lt-ltb limit (getD xs i 0) a))
+
+pub first-none : (limit : ℕ) (xs : List ℕ) → ((k : ℕ) → k < length xs → getD xs k 0 ≤ limit) → length xs ≡ firstAbove limit xs
+unfolding firstAbove
+first-none limit xs none = sym (lowest-none (length xs) (λ k. ltb limit (getD xs k 0)) (λ k l. le-ltb limit (getD xs k 0) (none k l)))

@@ -1,0 +1,57 @@
+// Bits of bytes, most significant first, and the small loops over slices that every crate above uses.
+//
+// Internal: nothing here is a public entry. A function with a `requires` is called only where its caller has shown it.
+ghost use mathlib.Core.Path.{_≡_};
+ghost use mathlib.Core.List.{_++_};
+ghost use Prim.Native.Nat.{ℕ, _*_, _<_, _≤_};
+ghost use lib.ListN.{length, getD, drop};
+ghost use Rattle.bits.specs.Lists.{written, firstAbove};
+ghost use Rattle.bits.specs.Bits.{bitOf, byteOf};
+
+// The lowest index of an element above `limit`, or the slice's length.
+pub fn first_above(s: &[u8], limit: u8) -> usize
+    ensures { λ r. ⌜ r ≡ firstAbove limit (now (s .entry)) ⌝ }
+{
+    let mut i: usize = 0;
+    while i < s.len() {
+        if limit < s[i] {
+            return i;
+        }
+        i += 1;
+    }
+    i
+}
+
+// All of `src` at the start of `out`.
+pub fn put(src: &[u8], out: &mut [u8])
+    requires { ⌜ length (now src) ≤ length (now out) ⌝ }
+    ensures { λ _. ⌜ now (out .exit) ≡ now (src .entry) ++ drop (length (now (src .entry))) (now (out .entry)) ⌝ }
+{
+    let mut i: usize = 0;
+    while i < src.len() {
+        out[i] = src[i];
+        i += 1;
+    }
+}
+
+// Bit i of some bytes, most significant first.
+pub fn bit_of(bytes: &[u8], i: usize) -> u8
+    requires { ⌜ i < 8 * length (now bytes) ⌝ }
+    ensures { λ r. ⌜ r ≡ bitOf (now (bytes .entry)) i ⌝ }
+{
+    let b = bytes[i / 8];
+    (b >> (7 - i % 8)) % 2
+}
+
+// The bits of some bytes, one an element, at the start of `out`.
+pub fn unpack(bytes: &[u8], out: &mut [u8])
+    requires { ⌜ (length (now bytes) < 65536) × (8 * length (now bytes) ≤ length (now out)) ⌝ }
+    ensures { λ _. ⌜ now (out .exit) ≡ written (8 * length (now (bytes .entry))) (bitOf (now (bytes .entry))) (now (out .entry)) ⌝ }
+{
+    let total = 8 * bytes.len();
+    let mut i: usize = 0;
+    while i < total {
+        out[i] = bit_of(bytes, i);
+        i += 1;
+    }
+}
