@@ -2,7 +2,7 @@
 use mathlib.Core.Path.{_≡_, refl, sym, ap, _∙_}
 use mathlib.Core.List.{List}
 use Prim.Native.Nat.{ℕ, zero, suc, _+_, _-_, _*_, _/_, _%_, _^_, _≤_, _<_}
-use native.Mathlib.Nat.{add-zero, mul-assoc, eq-or-lt-of-le, le-of-suc-le-suc, not-suc-le-zero}
+use native.Mathlib.Nat.{add-zero, add-assoc, mul-assoc, eq-or-lt-of-le, le-of-suc-le-suc, not-suc-le-zero}
 use mathlib.Core.Logic.{_⊎_, inl, inr}
 use native.Mathlib.Numerals.{add-one, one-add}
 use native.Mathlib.Omega.{arith}
@@ -123,3 +123,33 @@ bytes-bits bytes h = sym (tabulate-of (length bytes) (byteOf (bitOf bytes)) 0 by
 pub same-bits : (n : ℕ) (d e : ℕ → ℕ) → ((i : ℕ) → i < 8 * n → d i ≡ e i) → bytesOf n d ≡ bytesOf n e
 unfolding bytesOf byteOf
 same-bits n d e h = tabulate-ext n _ _ (λ k l. pack-ext 8 _ _ (λ j b. h (8 * k + j) (omega arith)))
+
+-- ---- fields of some bytes
+
+pub field-append : (bytes : List ℕ) (at n m : ℕ) → field bytes at (n + m) ≡ field bytes at n * 2 ^ m + field bytes (at + n) m
+unfolding field
+field-append bytes at n m =
+    pack-append n m (λ j. bitOf bytes (at + j)) ∙ ap (λ (k : ℕ). pack n (λ j. bitOf bytes (at + j)) * 2 ^ m + k) (pack-ext m _ _ (λ j h. ap (bitOf bytes) (sym (add-assoc at n j))))
+
+pub field-byte : (bytes : List ℕ) (k : ℕ) → getD bytes k 0 < 256 → field bytes (8 * k) 8 ≡ getD bytes k 0
+unfolding field byteOf
+field-byte bytes k h = byte-bits bytes k h
+
+pub field-lt : (bytes : List ℕ) (at n : ℕ) → field bytes at n < 2 ^ n
+unfolding field
+field-lt bytes at n = pack-lt n (λ j. bitOf bytes (at + j)) (λ j h. bit-binary bytes (at + j))
+
+-- the bits of a number from bit s up, packed
+pub pack-shifted : (n s x : ℕ) → pack n (λ j. bitAt (s + (n - 1 - j)) x) ≡ x / 2 ^ s % 2 ^ n
+pack-shifted n s x = pack-ext n _ (λ j. bitAt (n - 1 - j) (x / 2 ^ s)) (λ j h. ap (λ (y : ℕ). y % 2) (sym (shr-shr x s (n - 1 - j)))) ∙ pack-bits n (x / 2 ^ s)
+
+-- a field within one byte
+pub field-in-byte : (bytes : List ℕ) (k i n : ℕ) → i + n ≤ 8 → field bytes (8 * k + i) n ≡ getD bytes k 0 / 2 ^ (8 - i - n) % 2 ^ n
+unfolding field bitOf
+field-in-byte bytes k i n h = pack-ext n _ (λ j. bitAt (8 - i - n + (n - 1 - j)) (getD bytes k 0)) same ∙ pack-shifted n (8 - i - n) (getD bytes k 0)
+  where
+    same : (j : ℕ) → j < n → bitAt (7 - (8 * k + i + j) % 8) (getD bytes ((8 * k + i + j) / 8) 0) ≡ bitAt (8 - i - n + (n - 1 - j)) (getD bytes k 0)
+    same j l =
+        let q : (8 * k + i + j) / 8 ≡ k = omega arith in
+        let r : 7 - (8 * k + i + j) % 8 ≡ 8 - i - n + (n - 1 - j) = omega arith in
+        rw (q, r)

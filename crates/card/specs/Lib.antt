@@ -1,1 +1,4 @@
 pub mod Modes
+pub mod Card
+pub mod Entries
+pub mod Text

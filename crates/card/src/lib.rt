@@ -1,11 +1,42 @@
 // The job card (paper 01's term): eleven bytes that say which band, block, rate, modulation and taps a job uses.
+//
+//   version 4 bits (1) | band 2 | kind 3 | rate 1 | modulation 2 | taps 11 | spare 1 (0) | serial 64
+//
+// Public entries: `read_card`, `write_card` and `card_text`. Everything else that is `pub` is internal.
+use refusal::Answer;
+use refusal::Refusal;
 ghost use mathlib.Core.Path.{_≡_};
-ghost use Prim.Native.Nat.{_<_};
+ghost use mathlib.Core.Bool.{_&&_, _||_, not};
+ghost use Prim.Native.Nat.{ℕ, _+_, _*_, _/_, _%_, _^_, _-_, _<_, _≤_};
+ghost use lib.Dec.{eqb};
+ghost use lib.ListN.{length};
+ghost use Rattle.bits.specs.Bits.{field};
+ghost use Rattle.refusal.specs.Report.{answer};
 ghost use Rattle.card.specs.Modes.{blockBytes, carrierBits};
+ghost use Rattle.card.specs.Card.{cardOf, bytesOfCard};
+ghost use Rattle.card.specs.Entries.{definedMode, cardRead, readCard, writeCard};
 
 const BLOCK_BYTES: [usize; 5] = [16, 72, 136, 264, 520];
 
 const CARRIER_BITS: [usize; 3] = [1, 2, 4];
+
+// A card's fields. Each is wide enough to hand over a value that does not fit the card.
+pub struct Card {
+    pub version: u64,
+    pub band: u64,
+    pub kind: u64,
+    pub rate: u64,
+    pub modulation: u64,
+    pub taps: u64,
+    pub spare: u64,
+    pub serial: u64,
+}
+
+// What reading a card answers.
+pub enum CardRead {
+    Good(Card),
+    Refused(Refusal),
+}
 
 // The bytes of a block of a kind.
 pub fn block_bytes(kind: usize) -> usize
@@ -21,4 +52,108 @@ pub fn carrier_bits(modulation: usize) -> usize
     ensures { λ r. ⌜ r ≡ carrierBits modulation ⌝ }
 {
     CARRIER_BITS[modulation]
+}
+
+// The serial: the last eight bytes, most significant first.
+fn serial_of(card: &[u8]) -> u64
+    requires { ⌜ length (now card) ≡ 11 ⌝ }
+    ensures { λ r. ⌜ r ≡ field (now (card .entry)) 24 64 ⌝ }
+{
+    let mut serial: u64 = 0;
+    let mut i: usize = 0;
+    while i < 8 {
+        serial = serial * 256 + card[3 + i] as u64;
+        i += 1;
+    }
+    serial
+}
+
+// The fields in eleven bytes.
+fn unpack(card: &[u8]) -> Card
+    requires { ⌜ length (now card) ≡ 11 ⌝ }
+    ensures { λ r. ⌜ r ≡ cardOf (now (card .entry)) ⌝ }
+{
+    let a = card[0] as u64;
+    let b = card[1] as u64;
+    let c = card[2] as u64;
+    let serial = serial_of(card);
+    Card {
+        version: a / 16,
+        band: a / 4 % 4,
+        kind: a % 4 * 2 + b / 128,
+        rate: b / 64 % 2,
+        modulation: b / 16 % 4,
+        taps: b % 16 * 128 + c / 2,
+        spare: c % 2,
+        serial,
+    }
+}
+
+// Rate 1 goes only with the largest block.
+fn rate_serves(rate: u64, kind: u64) -> bool
+    ensures { λ r. ⌜ r ≡ (eqb rate 0 || eqb rate 1 && eqb kind 4) ⌝ }
+{
+    if rate == 0 {
+        return true;
+    }
+    if rate != 1 {
+        return false;
+    }
+    kind == 4
+}
+
+// Frame control goes only with QPSK.
+fn modulation_serves(kind: u64, modulation: u64) -> bool
+    ensures { λ r. ⌜ r ≡ (not (eqb kind 0) || eqb modulation 1) ⌝ }
+{
+    if kind != 0 {
+        return true;
+    }
+    modulation == 1
+}
+
+// Whether a mode is one of paper 01's.
+fn is_defined(band: u64, kind: u64, rate: u64, modulation: u64) -> bool
+    ensures { λ r. ⌜ r ≡ definedMode band kind rate modulation ⌝ }
+{
+    if 1 < band {
+        return false;
+    }
+    if 4 < kind {
+        return false;
+    }
+    if 2 < modulation {
+        return false;
+    }
+    if rate_serves(rate, kind) {
+        return modulation_serves(kind, modulation);
+    }
+    false
+}
+
+// Version 1, and nothing in the spare bit.
+fn is_versioned(version: u64, spare: u64) -> bool
+    ensures { λ r. ⌜ r ≡ (eqb version 1 && eqb spare 0) ⌝ }
+{
+    if version != 1 {
+        return false;
+    }
+    spare == 0
+}
+
+// The card in some bytes, or refusal 1, 2 or 3.
+pub fn read_card(card: &[u8]) -> CardRead
+    ensures { λ r. ⌜ cardRead r ≡ readCard (now (card .entry)) ⌝ }
+{
+    if card.len() != 11 {
+        return CardRead::Refused(Refusal::CardLength(card.len()));
+    }
+    let c = unpack(card);
+    if !is_versioned(c.version, c.spare) {
+        return CardRead::Refused(Refusal::Version);
+    }
+    if !is_defined(c.band, c.kind, c.rate, c.modulation) {
+        return CardRead::Refused(Refusal::Mode);
+    }
+    CardRead::Good(c)
 }

@@ -1,0 +1,14 @@
+-- `card::modulation_serves` meets its contract. Assumes nothing.
+use borrow.Author.Tests.{eq-eqb, ne-eqb}
+use borrow.Author.Needs.{needs}
+use Rattle.card.proofs.modulation_serves.Statement.{statement}
+use Rattle.card.proofs.modulation_serves.Tie as tie
+
+returns : tie.Need-returns
+returns c = simp (ne-eqb _ _ (c .if1 .taken))
+
+returns-2 : tie.Need-returns-2
+returns-2 c = simp (eq-eqb _ _ (c .if1 .left))
+
+pub modulation-serves-spec : {M : Type 1} → statement M
+modulation-serves-spec = tie.close (tie.spec returns returns-2)

@@ -1,0 +1,53 @@
+-- What reading and writing a card answer, for all inputs, by the rows of paper 01's table. Assumes nothing.
+use mathlib.Core.Bool.{Bool, not, _&&_, _||_}
+use mathlib.Core.List.{List, [], _∷_, _++_}
+use Prim.Native.Nat.{ℕ, _^_}
+use lib.Dec.{eqb, leb, ltb}
+use lib.ListN.{length, drop}
+use Rattle.refusal.specs.declared.Refusal.{Refusal}
+use Rattle.refusal.specs.declared.Refusal.the-variants.{CardLength, Version, Mode, Room}
+use Rattle.refusal.specs.Report.{Report, done, refusal}
+use Rattle.refusal.specs.Outcome.{Row, row, Outcome, reported, outcome}
+use Rattle.card.specs.declared.Card.{Card}
+use Rattle.card.specs.declared.CardRead.{CardRead}
+use Rattle.card.specs.declared.CardRead.the-variants.{Good, Refused}
+use Rattle.card.specs.Card.{cardOf, bytesOfCard}
+
+-- band 0 or 1; kind 0 to 4; modulation 0 to 2; rate 0, or 1 with kind 4; kind 0 only with QPSK
+unfoldable pub definedMode : ℕ → ℕ → ℕ → ℕ → Bool
+definedMode band kind rate modulation =
+    leb band 1 && leb kind 4 && leb modulation 2 && (eqb rate 0 || eqb rate 1 && eqb kind 4) && (not (eqb kind 0) || eqb modulation 1)
+
+abbrev pub defined : Card → Bool
+defined c = definedMode (c .band) (c .kind) (c .rate) (c .modulation)
+
+-- version 1, and spare 0
+abbrev pub versioned : Card → Bool
+versioned c = eqb (c .version) 1 && eqb (c .spare) 0
+
+-- the rows about a card in some bytes, which every entry that takes a card has first
+abbrev pub cardRows : List ℕ → List Row
+cardRows bytes =
+    row (not (eqb (length bytes) 11)) (CardLength (length bytes))
+    ∷ row (not (versioned (cardOf bytes))) Version
+    ∷ row (not (defined (cardOf bytes))) Mode
+    ∷ []
+
+-- number and values of each case of what reading answers
+abbrev pub cardRead : CardRead → Report Card
+cardRead (Good c) = done c
+cardRead (Refused r) = refusal r
+
+-- reading a card
+unfoldable pub readCard : List ℕ → Report Card
+readCard bytes = reported (cardRows bytes) (cardOf bytes)
+
+-- writing a card: any field too large for its bits is refused, version and spare by 2 and the others by 3
+unfoldable pub writeCard : Card → List ℕ → Outcome ℕ (List ℕ)
+writeCard c out =
+    outcome
+    (row (not (versioned c)) Version
+    ∷ row (not (defined c && ltb (c .taps) (2 ^ 11))) Mode
+    ∷ row (ltb (length out) 11) (Room 11)
+    ∷ [])
+    out 11 (bytesOfCard c ++ drop 11 out)

@@ -1,0 +1,38 @@
+-- The printed card: a total definition on the bytes that were read. Assumes nothing.
+use mathlib.Core.List.{List, [], _∷_, _++_}
+use Prim.Native.Nat.{ℕ}
+use lib.Dec.{ltb}
+use lib.ListN.{length, drop}
+use Rattle.refusal.specs.declared.Refusal.{Refusal}
+use Rattle.refusal.specs.declared.Refusal.the-variants.{Room}
+use Rattle.refusal.specs.Report.{Report, done, refused}
+use Rattle.refusal.specs.Outcome.{row, Outcome, outcome}
+use Rattle.text.specs.Text.{ascii, decimal, binary, line}
+use Rattle.card.specs.declared.Card.{Card}
+use Rattle.card.specs.Entries.{readCard}
+
+-- a line for each field but spare; taps are eleven binary digits, the others decimal
+unfoldable pub cardLines : Card → List ℕ
+cardLines c =
+    line (ascii "version") (decimal (c .version))
+    ++ line (ascii "band") (decimal (c .band))
+    ++ line (ascii "kind") (decimal (c .kind))
+    ++ line (ascii "rate") (decimal (c .rate))
+    ++ line (ascii "modulation") (decimal (c .modulation))
+    ++ line (ascii "taps") (binary 11 (c .taps))
+    ++ line (ascii "serial") (decimal (c .serial))
+
+-- the text of what reading a card reports: its lines, or its refusal's number
+abbrev pub textOf : Report Card → List ℕ
+textOf (done c) = cardLines c
+textOf (refused n v w) = line (ascii "refused") (decimal n)
+
+-- the text of some bytes as a card
+unfoldable pub cardText : List ℕ → List ℕ
+cardText bytes = textOf (readCard bytes)
+
+-- the text into a buffer: the only refusal is for want of room
+unfoldable pub textCard : List ℕ → List ℕ → Outcome ℕ (List ℕ)
+textCard bytes out =
+    outcome (row (ltb (length out) (length (cardText bytes))) (Room (length (cardText bytes))) ∷ [])
+    out (length (cardText bytes)) (cardText bytes ++ drop (length (cardText bytes)) out)
