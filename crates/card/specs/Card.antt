@@ -1,6 +1,6 @@
 -- The job card (paper 01's term): eight fields in eleven bytes, bit-packed, most significant first. Assumes nothing.
 use mathlib.Core.List.{List, [], _∷_}
-use Prim.Native.Nat.{ℕ, _+_, _-_, _*_, _^_}
+use Prim.Native.Nat.{ℕ, _+_, _-_, _*_, _^_, _<_}
 use lib.ListN.{getD}
 use Rattle.bits.specs.Bits.{bitAt, bytesOf, field}
 use Rattle.card.specs.declared.Card.{Card}
@@ -43,3 +43,13 @@ cardOf bytes = cardFrom (fieldsFrom bytes 0 widths)
 
 unfoldable pub bytesOfCard : Card → List ℕ
 bytesOfCard c = bytesOf 11 (λ i. bitAt (87 - i) (joined widths (fieldsOf c) 0))
+
+-- each field but the serial fits its bits
+pub record Fitting (c : Card) : Type 0 where
+  pub version : c .version < 16
+  pub band : c .band < 4
+  pub kind : c .kind < 8
+  pub rate : c .rate < 2
+  pub modulation : c .modulation < 4
+  pub taps : c .taps < 2048
+  pub spare : c .spare < 2

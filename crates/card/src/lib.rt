@@ -8,12 +8,12 @@ use refusal::Refusal;
 ghost use mathlib.Core.Path.{_≡_};
 ghost use mathlib.Core.Bool.{_&&_, _||_, not};
 ghost use Prim.Native.Nat.{ℕ, _+_, _*_, _/_, _%_, _^_, _-_, _<_, _≤_};
-ghost use lib.Dec.{eqb};
+ghost use lib.Dec.{eqb, ltb};
 ghost use lib.ListN.{length};
 ghost use Rattle.bits.specs.Bits.{field};
 ghost use Rattle.refusal.specs.Report.{answer};
 ghost use Rattle.card.specs.Modes.{blockBytes, carrierBits};
-ghost use Rattle.card.specs.Card.{cardOf, bytesOfCard};
+ghost use Rattle.card.specs.Card.{cardOf, bytesOfCard, Fitting};
 ghost use Rattle.card.specs.Entries.{definedMode, cardRead, readCard, writeCard};
 
 const BLOCK_BYTES: [usize; 5] = [16, 72, 136, 264, 520];
@@ -156,4 +156,62 @@ pub fn read_card(card: &[u8]) -> CardRead
         return CardRead::Refused(Refusal::Mode);
     }
     CardRead::Good(c)
+}
+
+// Whether a mode is defined and its taps fit eleven bits.
+fn is_writable(band: u64, kind: u64, rate: u64, modulation: u64, taps: u64) -> bool
+    ensures { λ r. ⌜ r ≡ (definedMode band kind rate modulation && ltb taps (2 ^ 11)) ⌝ }
+{
+    if is_defined(band, kind, rate, modulation) {
+        return taps < 2048;
+    }
+    false
+}
+
+// Byte i of the serial, most significant first.
+fn serial_byte(serial: u64, i: usize) -> u8
+    requires { ⌜ i < 8 ⌝ }
+    ensures { λ r. ⌜ r ≡ serial / 2 ^ (56 - 8 * i) % 256 ⌝ }
+{
+    ((serial >> (56 - 8 * i)) % 256) as u8
+}
+
+// The eleven bytes of fields that fit.
+fn pack_card(c: Card) -> [u8; 11]
+    requires { ⌜ Fitting c ⌝ }
+    ensures { λ r. ⌜ r ≡ bytesOfCard c ⌝ }
+{
+    let s = c.serial;
+    [
+        (c.version * 16 + c.band * 4 + c.kind / 2) as u8,
+        (c.kind % 2 * 128 + c.rate * 64 + c.modulation * 16 + c.taps / 128) as u8,
+        (c.taps % 128 * 2 + c.spare) as u8,
+        serial_byte(s, 0),
+        serial_byte(s, 1),
+        serial_byte(s, 2),
+        serial_byte(s, 3),
+        serial_byte(s, 4),
+        serial_byte(s, 5),
+        serial_byte(s, 6),
+        serial_byte(s, 7),
+    ]
+}
+
+// The fields as eleven bytes at the start of `out`, or refusal 2, 3 or 5.
+pub fn write_card(c: Card, out: &mut [u8]) -> Answer
+    ensures answer { λ r. ⌜ answer r ≡ writeCard c (now (out .entry)) .report ⌝ }
+    ensures bytes { λ _. ⌜ now (out .exit) ≡ writeCard c (now (out .entry)) .out ⌝ }
+{
+    if !is_versioned(c.version, c.spare) {
+        return Answer::Refused(Refusal::Version);
+    }
+    if !is_writable(c.band, c.kind, c.rate, c.modulation, c.taps) {
+        return Answer::Refused(Refusal::Mode);
+    }
+    if out.len() < 11 {
+        return Answer::Refused(Refusal::Room(11));
+    }
+    let bytes = pack_card(c);
+    bits::put(&bytes, out);
+    Answer::Done(11)
 }
