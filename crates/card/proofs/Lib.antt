@@ -1,2 +1,3 @@
 pub mod CardLaws
 pub mod WriteLaws
+pub mod RoundTrip

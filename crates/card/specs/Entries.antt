@@ -42,12 +42,14 @@ cardRead (Refused r) = refusal r
 unfoldable pub readCard : List ℕ → Report Card
 readCard bytes = reported (cardRows bytes) (cardOf bytes)
 
--- writing a card: any field too large for its bits is refused, version and spare by 2 and the others by 3
-unfoldable pub writeCard : Card → List ℕ → Outcome ℕ (List ℕ)
-writeCard c out =
-    outcome
-    (row (not (versioned c)) Version
+-- the rows of writing: any field too large for its bits is refused, version and spare by 2 and the others by 3
+abbrev pub writeRows : Card → List ℕ → List Row
+writeRows c out =
+    row (not (versioned c)) Version
     ∷ row (not (defined c && ltb (c .taps) (2 ^ 11))) Mode
     ∷ row (ltb (length out) 11) (Room 11)
-    ∷ [])
-    out 11 (bytesOfCard c ++ drop 11 out)
+    ∷ []
+
+-- writing a card
+unfoldable pub writeCard : Card → List ℕ → Outcome ℕ (List ℕ)
+writeCard c out = outcome (writeRows c out) out 11 (bytesOfCard c ++ drop 11 out)

@@ -2,7 +2,8 @@
 use mathlib.Core.Path.{_≡_, refl, sym, ap, _∙_}
 use mathlib.Core.Bool.{Bool, true, false, cond}
 use mathlib.Core.List.{List, [], _∷_}
-use Prim.Native.Nat.{ℕ}
+use Prim.{Unit}
+use Prim.Native.Nat.{ℕ, _<_}
 use native.Mathlib.Omega.{arith}
 use lib.Dec.{eqb}
 use Rattle.refusal.specs.declared.Refusal.{Refusal}
@@ -10,7 +11,7 @@ use Rattle.refusal.specs.declared.Refusal.the-variants.{CardLength, Vers
 use Rattle.refusal.specs.declared.Answer.{Answer}
 use Rattle.refusal.specs.declared.Answer.the-variants.{Done, Refused}
 use Rattle.refusal.specs.Report.{Report, done, refused, refusal, answer, number}
-use Rattle.refusal.specs.Outcome.{Row, Outcome, firstApplicable, inOrder, rowOrder, outcome}
+use Rattle.refusal.specs.Outcome.{Row, Outcome, firstApplicable, inOrder, rowOrder, reported, outcome}
 
 abbrev settled : {A B : Type 0} → List Row → B → A → B → Outcome A B
 settled rows out a made = firstApplicable rows (λ r. record { report = refusal r; out = out }) (record { report = done a; out = made })
@@ -31,6 +32,61 @@ kept-by {A} {B} (r ∷ rows) out a made h = go (r .applies) h (kept-by rows out 
 pub kept : {A B : Type 0} (rows : List Row) (out : B) (a : A) (made : B)
     → (number (outcome rows out a made .report) ≡ 0 → ⊥) → outcome rows out a made .out ≡ out
 kept rows out a made h = kept-by (inOrder rowOrder rows) out a made h
+
+-- two answers with one report are the same answer
+pub done-same : {A : Type 0} {a b : A} → done a ≡ done b → a ≡ b
+done-same e = cc
+
+-- no row applies
+abbrev pub NoneApplies : List Row → Type 0
+NoneApplies [] = Unit {0}
+NoneApplies (r ∷ rs) = (r .applies ≡ false) × NoneApplies rs
+
+refusal-number : (A : Type 0) (r : Refusal) → 0 < number (refusal {A = A} r)
+refusal-number A (CardLength n) = omega arith
+refusal-number A Version = omega arith
+refusal-number A Mode = omega arith
+refusal-number A (Pad n) = omega arith
+refusal-number A (Length n) = omega arith
+refusal-number A (Room n) = omega arith
+refusal-number A (Item n) = omega arith
+refusal-number A (Majority n) = omega arith
+refusal-number A (Parity n) = omega arith
+
+done-by : {A : Type 0} (rows : List Row) (a d : A) → firstApplicable rows refusal (done a) ≡ done d → NoneApplies rows × (firstApplicable rows refusal (done a) ≡ done a)
+done-by [] a d e = (tt, refl)
+done-by {A} (r ∷ rows) a d e = go (r .applies) refl e (done-by rows a d)
+  where
+    go : (b : Bool) → r .applies ≡ b → cond b (refusal (r .cause)) (firstApplicable rows refusal (done a)) ≡ done d
+        → (firstApplicable rows refusal (done a) ≡ done d → NoneApplies rows × (firstApplicable rows refusal (done a) ≡ done a))
+        → ((r .applies ≡ false) × NoneApplies rows) × (cond (r .applies) (refusal (r .cause)) (firstApplicable rows refusal (done a)) ≡ done a)
+    go true q f ih = absurd (let z : number (refusal {A = A} (r .cause)) ≡ 0 = ap number f in omega (arith, refusal-number A (r .cause)))
+    go false q f ih = let (none, is) = ih f in ((q, none), (rw q is))
+
+-- where an entry is done, no row applies
+pub reported-done : {A : Type 0} (rows : List Row) (a d : A) → reported rows a ≡ done d → NoneApplies (inOrder rowOrder rows) × (reported rows a ≡ done a)
+reported-done rows a d e = done-by (inOrder rowOrder rows) a d e
+
+settled-good : {A B : Type 0} (rows : List Row) (out : B) (a : A) (made : B) → NoneApplies rows → settled rows out a made ≡ record { report = done a; out = made }
+settled-good [] out a made none = refl
+settled-good (r ∷ rows) out a made (no-row, none) = rw no-row (settled-good rows out a made none)
+
+-- where no row applies, the outcome is the answer and what was made
+pub outcome-good : {A B : Type 0} (rows : List Row) (out : B) (a : A) (made : B) → NoneApplies (inOrder rowOrder rows) → outcome rows out a made ≡ record { report = done a; out = made }
+outcome-good rows out a made none = settled-good (inOrder rowOrder rows) out a made none
+
+report-by : {A B : Type 0} (rows : List Row) (out : B) (a : A) (made : B) → settled rows out a made .report ≡ firstApplicable rows refusal (done a)
+report-by [] out a made = refl
+report-by {A} {B} (r ∷ rows) out a made = go (r .applies) (report-by rows out a made)
+  where
+    go : (b : Bool) → settled rows out a made .report ≡ firstApplicable rows refusal (done a)
+        → chosen b (r .cause) out (settled rows out a made) .report ≡ cond b (refusal (r .cause)) (firstApplicable rows refusal (done a))
+    go true ih = refl
+    go false ih = ih
+
+-- where an outcome is done, no row applies
+pub outcome-done : {A B : Type 0} (rows : List Row) (out : B) (a d : A) (made : B) → outcome rows out a made .report ≡ done d → NoneApplies (inOrder rowOrder rows)
+outcome-done rows out a d made e = done-by (inOrder rowOrder rows) a d (sym (report-by (inOrder rowOrder rows) out a made) ∙ e) .0
 
 -- the refusal of a report
 back : {A : Type 0} → Report A → Refusal
