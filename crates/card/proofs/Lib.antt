@@ -1,3 +1,4 @@
 pub mod CardLaws
 pub mod WriteLaws
 pub mod RoundTrip
+pub mod DraftLaws

@@ -2,13 +2,14 @@
 use mathlib.Core.List.{List, [], _∷_, _++_}
 use Prim.Native.Nat.{ℕ}
 use lib.Dec.{ltb}
-use lib.ListN.{length, drop}
+use lib.ListN.{length, take, drop}
 use Rattle.refusal.specs.declared.Refusal.{Refusal}
 use Rattle.refusal.specs.declared.Refusal.the-variants.{Room}
 use Rattle.refusal.specs.Report.{Report, done, refused}
 use Rattle.refusal.specs.Outcome.{row, Outcome, outcome}
 use Rattle.text.specs.Text.{ascii, decimal, binary, line}
 use Rattle.card.specs.declared.Card.{Card}
+use Rattle.card.specs.declared.Draft.{Draft}
 use Rattle.card.specs.Entries.{readCard}
 
 -- a line for each field but spare; taps are eleven binary digits, the others decimal
@@ -36,3 +37,7 @@ unfoldable pub textCard : List ℕ → List ℕ → Outcome ℕ (List ℕ)
 textCard bytes out =
     outcome (row (ltb (length out) (length (cardText bytes))) (Room (length (cardText bytes))) ∷ [])
     out (length (cardText bytes)) (cardText bytes ++ drop (length (cardText bytes)) out)
+
+-- the text that a draft holds so far
+abbrev pub drafted : Draft → List ℕ
+drafted d = take (d .len) (d .bytes)

@@ -6,12 +6,15 @@
 use refusal::Answer;
 use refusal::Refusal;
 ghost use mathlib.Core.Path.{_≡_};
+ghost use mathlib.Core.List.{[], _++_};
 ghost use mathlib.Core.Bool.{_&&_, _||_, not};
 ghost use Prim.Native.Nat.{ℕ, _+_, _*_, _/_, _%_, _^_, _-_, _<_, _≤_};
 ghost use lib.Dec.{eqb, ltb};
 ghost use lib.ListN.{length};
 ghost use Rattle.bits.specs.Bits.{field};
 ghost use Rattle.refusal.specs.Report.{answer};
+ghost use Rattle.text.specs.Text.{line, decimal, binary};
+ghost use Rattle.card.specs.Text.{drafted, cardLines, cardText, textCard};
 ghost use Rattle.card.specs.Modes.{blockBytes, carrierBits};
 ghost use Rattle.card.specs.Card.{cardOf, bytesOfCard, Fitting};
 ghost use Rattle.card.specs.Entries.{definedMode, cardRead, readCard, writeCard};
@@ -214,4 +217,44 @@ pub fn write_card(c: Card, out: &mut [u8]) -> Answer
     let bytes = pack_card(c);
     bits::put(&bytes, out);
     Answer::Done(11)
+}
+
+// A text that is being made: its bytes, and how many of them there are so far.
+pub struct Draft {
+    pub bytes: [u8; 96],
+    pub len: usize,
+}
+
+// No text yet.
+fn blank() -> Draft
+    ensures { λ r. ⌜ (drafted r ≡ []) × (r .len ≡ 0) ⌝ }
+{
+    Draft {
+        bytes: [0u8; 96],
+        len: 0,
+    }
+}
+
+// The text with one more line, of a name and a value.
+fn with_line(d: Draft, name: &[u8], value: &[u8]) -> Draft
+    requires { ⌜ d .len + length (line (now name) (now value)) ≤ 96 ⌝ }
+    ensures text { λ r. ⌜ drafted r ≡ drafted d ++ line (now (name .entry)) (now (value .entry)) ⌝ }
+    ensures end { λ r. ⌜ r .len ≡ d .len + length (line (now (name .entry)) (now (value .entry))) ⌝ }
+{
+    let mut bytes = d.bytes;
+    let at = d.len;
+    let len = text::append_line(&mut bytes, at, name, value);
+    Draft { bytes, len }
+}
+
+// The text with one more line, of a name and a number in decimal.
+fn with_number(d: Draft, name: &[u8], n: u64) -> Draft
+    requires { ⌜ d .len + length (now name) + 22 ≤ 96 ⌝ }
+    ensures text { λ r. ⌜ drafted r ≡ drafted d ++ line (now (name .entry)) (decimal n) ⌝ }
+    ensures end { λ r. ⌜ r .len ≡ d .len + length (line (now (name .entry)) (decimal n)) ⌝ }
+{
+    let mut bytes = d.bytes;
+    let at = d.len;
+    let len = text::append_number(&mut bytes, at, name, n);
+    Draft { bytes, len }
 }
