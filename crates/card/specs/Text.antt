@@ -1,6 +1,7 @@
 -- The printed card: a total definition on the bytes that were read. Assumes nothing.
 use mathlib.Core.List.{List, [], _∷_, _++_}
-use Prim.Native.Nat.{ℕ}
+use mathlib.Core.Path.{_≡_}
+use Prim.Native.Nat.{ℕ, _≤_}
 use lib.Dec.{ltb}
 use lib.ListN.{length, take, drop}
 use Rattle.refusal.specs.declared.Refusal.{Refusal}
@@ -13,15 +14,16 @@ use Rattle.card.specs.declared.Draft.{Draft}
 use Rattle.card.specs.Entries.{readCard}
 
 -- a line for each field but spare; taps are eleven binary digits, the others decimal
-unfoldable pub cardLines : Card → List ℕ
-cardLines c =
+unfoldable pub modeLines : Card → List ℕ
+modeLines c =
     line (ascii "version") (decimal (c .version))
     ++ line (ascii "band") (decimal (c .band))
     ++ line (ascii "kind") (decimal (c .kind))
     ++ line (ascii "rate") (decimal (c .rate))
     ++ line (ascii "modulation") (decimal (c .modulation))
-    ++ line (ascii "taps") (binary 11 (c .taps))
-    ++ line (ascii "serial") (decimal (c .serial))
+
+unfoldable pub cardLines : Card → List ℕ
+cardLines c = modeLines c ++ line (ascii "taps") (binary 11 (c .taps)) ++ line (ascii "serial") (decimal (c .serial))
 
 -- the text of what reading a card reports: its lines, or its refusal's number
 abbrev pub textOf : Report Card → List ℕ
@@ -39,5 +41,11 @@ textCard bytes out =
     out (length (cardText bytes)) (cardText bytes ++ drop (length (cardText bytes)) out)
 
 -- the text that a draft holds so far
-abbrev pub drafted : Draft → List ℕ
+unfoldable pub drafted : Draft → List ℕ
 drafted d = take (d .len) (d .bytes)
+
+-- a draft holds a text, and the text is no longer than `most`
+pub record Holds (d : Draft) (text : List ℕ) (most : ℕ) : Type 0 where
+  pub text-is : drafted d ≡ text
+  pub len-is : d .len ≡ length text
+  pub len-le : d .len ≤ most

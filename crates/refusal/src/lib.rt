@@ -36,7 +36,7 @@ pub enum Answer {
 }
 
 // The number of a refusal.
-fn number_of(r: Refusal) -> u32
+pub fn number_of(r: Refusal) -> u32
     ensures { λ n. ⌜ n ≡ number (refusal {A = ℕ} r) ⌝ }
 {
     match r {

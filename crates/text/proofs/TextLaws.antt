@@ -13,7 +13,7 @@ use lib.Seq.{paste, paste-suc, take-length, take-all, take-at, drop-at, length-t
 use borrow.Author.Tests.{lt-ltb, le-ltb}
 use Rattle.bits.specs.Lists.{tabulate, lowest}
 use Rattle.bits.proofs.ListLaws.{lowest-here, lowest-none, lowest-le, tabulate-of, tabulate-ext, length-tabulate, getD-tabulate}
-use Rattle.text.specs.Text.{places, decimal, line, appended}
+use Rattle.text.specs.Text.{places, decimal, binary, line, appended}
 
 -- ---- decimal digits
 
@@ -93,6 +93,10 @@ digits-part n k digits e g =
 pub length-decimal : (n : ℕ) → length (decimal n) ≡ places n
 unfolding decimal
 length-decimal n = length-tabulate (places n) _
+
+pub length-binary : (width n : ℕ) → length (binary width n) ≡ width
+unfolding binary
+length-binary width n = length-tabulate width _
 
 -- the digits from place i on are in place
 abbrev pub Spelt : ℕ → ℕ → List ℕ → Type 0

@@ -1,11 +1,10 @@
 -- `card::with_line` meets its contract. Assumes nothing.
 use mathlib.Core.Path.{_≡_}
-use Prim.Native.Nat.{_+_, _≤_}
 use native.Mathlib.Omega.{arith}
 use denote.Ref.{now}
 use lib.ListN.{length}
-use Rattle.text.specs.Text.{line, decimal}
-use Rattle.card.proofs.DraftLaws.{drafted-more}
+use Rattle.text.specs.Text.{line}
+use Rattle.card.proofs.DraftLaws.{holds-more}
 use borrow.Author.Needs.{needs}
 use Rattle.card.proofs.with_line.Statement.{statement}
 use Rattle.card.proofs.with_line.Tie as tie
@@ -16,17 +15,16 @@ slice-aggregate-append-line c = search needs
 append-line-requires : tie.Need-append-line-requires
 append-line-requires c κs =
     let o = c .before .before .before .before in
-    let long : length (o .args .d .bytes) ≡ 96 = search needs in
+    let long : length (o .args .d .bytes) ≡ 192 = search needs in
     omega (arith, o .pre)
 
 returns : tie.Need-returns
 returns c =
     let o = c .before .before .before .before .before .before in
     let a = o .args in
-    let long : length (a .d .bytes) ≡ 96 = search needs in
-    let room : a .d .len + length (line (now (a .name)) (now (a .value))) ≤ length (a .d .bytes) = omega (arith, o .pre) in
+    let long : length (a .d .bytes) ≡ 192 = search needs in
     let said = c .before .append-line .ensures in
-    (drafted-more _ _ _ _ _ (said .1) (said .0) room, said .0)
+    holds-more (a .d) _ (line (now (a .name)) (now (a .value))) _ (said .1) (said .0) (omega (arith, o .pre)) (omega arith)
 
 pub with-line-spec : {M : Type 1} → statement M
 with-line-spec = tie.close (tie.spec slice-aggregate-append-line append-line-requires returns)

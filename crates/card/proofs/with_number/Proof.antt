@@ -1,12 +1,11 @@
 -- `card::with_number` meets its contract. Assumes nothing.
 use mathlib.Core.Path.{_≡_}
-use Prim.Native.Nat.{_+_, _≤_}
 use native.Mathlib.Omega.{arith}
 use denote.Ref.{now}
 use lib.ListN.{length}
 use Rattle.text.specs.Text.{line, decimal}
 use Rattle.text.proofs.TextLaws.{length-line, length-decimal, places-le}
-use Rattle.card.proofs.DraftLaws.{drafted-more}
+use Rattle.card.proofs.DraftLaws.{holds-more}
 use borrow.Author.Needs.{needs}
 use Rattle.card.proofs.with_number.Statement.{statement}
 use Rattle.card.proofs.with_number.Tie as tie
@@ -17,17 +16,19 @@ slice-aggregate-append-number c = search needs
 append-number-requires : tie.Need-append-number-requires
 append-number-requires c κs =
     let o = c .before .before .before in
-    let long : length (o .args .d .bytes) ≡ 96 = search needs in
+    let long : length (o .args .d .bytes) ≡ 192 = search needs in
     omega (arith, o .pre)
 
 returns : tie.Need-returns
 returns c =
     let o = c .before .before .before .before .before in
     let a = o .args in
-    let long : length (a .d .bytes) ≡ 96 = search needs in
-    let room : a .d .len + length (line (now (a .name)) (decimal (a .n))) ≤ length (a .d .bytes) = omega (arith, length-line (now (a .name)) (decimal (a .n)), length-decimal (a .n), places-le (a .n) .1) in
+    let long : length (a .d .bytes) ≡ 192 = search needs in
     let said = c .before .append-number .ensures in
-    (drafted-more _ _ _ _ _ (said .1) (said .0) room, said .0)
+    let short = length-line (now (a .name)) (decimal (a .n)) in
+    let digits = length-decimal (a .n) in
+    let few = places-le (a .n) .1 in
+    holds-more (a .d) _ (line (now (a .name)) (decimal (a .n))) _ (said .1) (said .0) (omega (arith, o .pre)) (omega arith)
 
 pub with-number-spec : {M : Type 1} → statement M
 with-number-spec =
