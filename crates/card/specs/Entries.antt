@@ -11,7 +11,7 @@ use Rattle.refusal.specs.Outcome.{Row, row, Outcome, reported, outcome}
 use Rattle.card.specs.declared.Card.{Card}
 use Rattle.card.specs.declared.CardRead.{CardRead}
 use Rattle.card.specs.declared.CardRead.the-variants.{Good, Refused}
-use Rattle.card.specs.Card.{cardOf, bytesOfCard}
+use Rattle.card.specs.Card.{cardOf, fieldsOf, bytesOfCard}
 
 -- band 0 or 1; kind 0 to 4; modulation 0 to 2; rate 0, or 1 with kind 4; kind 0 only with QPSK
 unfoldable pub definedMode : ℕ → ℕ → ℕ → ℕ → Bool
@@ -41,6 +41,10 @@ cardRead (Refused r) = refusal r
 -- reading a card
 unfoldable pub readCard : List ℕ → Report Card
 readCard bytes = reported (cardRows bytes) (cardOf bytes)
+
+-- reading a card into a list of its fields
+unfoldable pub readFields : List ℕ → List ℕ → Outcome ℕ (List ℕ)
+readFields bytes fields = outcome (cardRows bytes ++ (row (ltb (length fields) 8) (Room 8) ∷ [])) fields 8 (fieldsOf (cardOf bytes) ++ drop 8 fields)
 
 -- the rows of writing: any field too large for its bits is refused, version and spare by 2 and the others by 3
 abbrev pub writeRows : Card → List ℕ → List Row

@@ -2,7 +2,7 @@
 //
 //   version 4 bits (1) | band 2 | kind 3 | rate 1 | modulation 2 | taps 11 | spare 1 (0) | serial 64
 //
-// Public entries: `read_card`, `write_card` and `card_text`. Everything else that is `pub` is internal.
+// Public entries: `read_card`, `read_fields`, `write_card` and `card_text`. Everything else that is `pub` is internal.
 use refusal::Answer;
 use refusal::Refusal;
 ghost use mathlib.Core.Path.{_≡_};
@@ -10,14 +10,14 @@ ghost use mathlib.Core.List.{[], _++_};
 ghost use mathlib.Core.Bool.{_&&_, _||_, not};
 ghost use Prim.Native.Nat.{ℕ, _+_, _*_, _/_, _%_, _^_, _-_, _<_, _≤_};
 ghost use lib.Dec.{eqb, ltb};
-ghost use lib.ListN.{length};
+ghost use lib.ListN.{length, drop};
 ghost use Rattle.bits.specs.Bits.{field};
 ghost use Rattle.refusal.specs.Report.{answer, refusal};
 ghost use Rattle.text.specs.Text.{line, decimal, binary};
 ghost use Rattle.card.specs.Text.{drafted, Holds, modeLines, cardLines, textOf, cardText, textCard};
 ghost use Rattle.card.specs.Modes.{blockBytes, carrierBits};
-ghost use Rattle.card.specs.Card.{cardOf, bytesOfCard, Fitting};
-ghost use Rattle.card.specs.Entries.{definedMode, cardRead, readCard, writeCard};
+ghost use Rattle.card.specs.Card.{cardOf, bytesOfCard, fieldsOf, Fitting};
+ghost use Rattle.card.specs.Entries.{definedMode, cardRead, readCard, readFields, writeCard};
 
 const BLOCK_BYTES: [usize; 5] = [16, 72, 136, 264, 520];
 
@@ -320,4 +320,36 @@ pub fn card_text(card: &[u8], out: &mut [u8]) -> Answer
     let bytes = draft.bytes;
     bits::put(&bytes[..len], out);
     Answer::Done(len)
+}
+
+// The eight fields in order at the start of `fields`.
+fn put_fields(c: Card, fields: &mut [u64])
+    requires { ⌜ 8 ≤ length (now fields) ⌝ }
+    ensures { λ _. ⌜ now (fields .exit) ≡ fieldsOf c ++ drop 8 (now (fields .entry)) ⌝ }
+{
+    fields[0] = c.version;
+    fields[1] = c.band;
+    fields[2] = c.kind;
+    fields[3] = c.rate;
+    fields[4] = c.modulation;
+    fields[5] = c.taps;
+    fields[6] = c.spare;
+    fields[7] = c.serial;
+}
+
+// The fields of the card in some bytes at the start of `fields`, or refusal 1, 2, 3 or 5.
+pub fn read_fields(card: &[u8], fields: &mut [u64]) -> Answer
+    ensures answer { λ r. ⌜ answer r ≡ readFields (now (card .entry)) (now (fields .entry)) .report ⌝ }
+    ensures fields { λ _. ⌜ now (fields .exit) ≡ readFields (now (card .entry)) (now (fields .entry)) .out ⌝ }
+{
+    match read_card(card) {
+        CardRead::Refused(r) => Answer::Refused(r),
+        CardRead::Good(c) => {
+            if fields.len() < 8 {
+                return Answer::Refused(Refusal::Room(8));
+            }
+            put_fields(c, fields);
+            Answer::Done(8)
+        }
+    }
 }

@@ -1,7 +1,7 @@
 -- Laws of outcomes: a refusal keeps the lent memory, whatever the rows, and a report decides the answer. Assumes nothing.
 use mathlib.Core.Path.{_≡_, refl, sym, ap, _∙_}
 use mathlib.Core.Bool.{Bool, true, false, cond}
-use mathlib.Core.List.{List, [], _∷_}
+use mathlib.Core.List.{List, [], _∷_, _++_}
 use Prim.{Unit}
 use Prim.Native.Nat.{ℕ, _<_}
 use native.Mathlib.Omega.{arith}
@@ -13,7 +13,8 @@ use Rattle.refusal.specs.declared.Answer.the-variants.{Done, Refused}
 use Rattle.refusal.specs.Report.{Report, done, refused, refusal, answer, number}
 use Rattle.refusal.specs.Outcome.{Row, Outcome, firstApplicable, inOrder, rowOrder, reported, outcome}
 
-abbrev settled : {A B : Type 0} → List Row → B → A → B → Outcome A B
+-- the outcome by rows that are in order
+abbrev pub settled : {A B : Type 0} → List Row → B → A → B → Outcome A B
 settled rows out a made = firstApplicable rows (λ r. record { report = refusal r; out = out }) (record { report = done a; out = made })
 
 abbrev chosen : {A B : Type 0} → Bool → Refusal → B → Outcome A B → Outcome A B
@@ -101,18 +102,47 @@ back (refused n v w) =
     (cond (eqb n 7) (Majority v)
     (cond (eqb n 8) (Parity v) Mode)))))))
 
-back-refusal : (r : Refusal) → back (refusal {A = ℕ} r) ≡ r
+back-refusal : (A : Type 0) (r : Refusal) → back (refusal {A = A} r) ≡ r
 unfolding back
-back-refusal (CardLength n) = refl
-back-refusal Version = refl
-back-refusal Mode = refl
-back-refusal (Pad n) = refl
-back-refusal (Length n) = refl
-back-refusal (Room n) = refl
-back-refusal (Item n) = refl
-back-refusal (Majority n) = refl
-back-refusal (Parity n) = refl
+back-refusal A (CardLength n) = refl
+back-refusal A Version = refl
+back-refusal A Mode = refl
+back-refusal A (Pad n) = refl
+back-refusal A (Length n) = refl
+back-refusal A (Room n) = refl
+back-refusal A (Item n) = refl
+back-refusal A (Majority n) = refl
+back-refusal A (Parity n) = refl
 
 -- two refusals with one report are the same refusal
-pub refusal-decides : (r s : Refusal) → refusal {A = ℕ} r ≡ refusal s → r ≡ s
-refusal-decides r s e = sym (back-refusal r) ∙ ap back e ∙ back-refusal s
+pub refusal-decides : (A : Type 0) (r s : Refusal) → refusal {A = A} r ≡ refusal s → r ≡ s
+refusal-decides A r s e = sym (back-refusal A r) ∙ ap back e ∙ back-refusal A s
+
+-- ---- rows that come first: what they report decides, and where they let pass, the rest does
+
+refused-first : {A X : Type 0} (rows rest : List Row) (a : A) (r : Refusal) (f : Refusal → X) (good : X)
+    → firstApplicable rows refusal (done a) ≡ refusal r → firstApplicable (rows ++ rest) f good ≡ f r
+refused-first {A} [] rest a r f good e = absurd (let z : 0 ≡ number (refusal {A = A} r) = ap number e in omega (arith, refusal-number A r))
+refused-first {A} {X} (x ∷ rows) rest a r f good e = go (x .applies) e (refused-first rows rest a r f good)
+  where
+    go : (b : Bool) → cond b (refusal (x .cause)) (firstApplicable rows refusal (done a)) ≡ refusal r
+        → (firstApplicable rows refusal (done a) ≡ refusal r → firstApplicable (rows ++ rest) f good ≡ f r)
+        → cond b (f (x .cause)) (firstApplicable (rows ++ rest) f good) ≡ f r
+    go true d ih = ap f (refusal-decides A (x .cause) r d)
+    go false d ih = ih d
+
+none-first : {X : Type 0} (rows rest : List Row) (f : Refusal → X) (good : X) → NoneApplies rows → firstApplicable (rows ++ rest) f good ≡ firstApplicable rest f good
+none-first [] rest f good none = refl
+none-first (x ∷ rows) rest f good (no-row, none) = rw no-row (none-first rows rest f good none)
+
+passed-first : {A X : Type 0} (rows rest : List Row) (a d : A) (f : Refusal → X) (good : X)
+    → firstApplicable rows refusal (done a) ≡ done d → firstApplicable (rows ++ rest) f good ≡ firstApplicable rest f good
+passed-first rows rest a d f good e = none-first rows rest f good (done-by rows a d e .0)
+
+pub refused-outcome : {A B C : Type 0} (rows rest : List Row) (d : C) (r : Refusal) (out : B) (a : A) (made : B)
+    → firstApplicable rows refusal (done d) ≡ refusal r → settled (rows ++ rest) out a made ≡ record { report = refusal r; out = out }
+refused-outcome rows rest d r out a made e = refused-first rows rest d r (λ x. record { report = refusal x; out = out }) (record { report = done a; out = made }) e
+
+pub passed-outcome : {A B C : Type 0} (rows rest : List Row) (d c : C) (out : B) (a : A) (made : B)
+    → firstApplicable rows refusal (done d) ≡ done c → settled (rows ++ rest) out a made ≡ settled rest out a made
+passed-outcome rows rest d c out a made e = passed-first rows rest d c (λ x. record { report = refusal x; out = out }) (record { report = done a; out = made }) e
