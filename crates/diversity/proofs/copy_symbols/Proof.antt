@@ -1,0 +1,100 @@
+-- `diversity::copy_symbols` meets its contract. The invariant: the items of the symbols passed, n of them, are written. Assumes nothing.
+use mathlib.Core.Path.{_≡_, refl, ap}
+use Prim.Native.Nat.{ℕ, _+_, _-_, _*_, _≤_}
+use native.Mathlib.Omega.{arith}
+use lib.ListN.{length, getD, length-take, length-drop}
+use Rattle.bits.specs.Lists.{written}
+use Rattle.bits.proofs.ListLaws.{written-none, written-all}
+use Rattle.diversity.specs.Lanes.{laneBit}
+use Rattle.diversity.proofs.Extra.{row-next, row-within, rows-all, written-part}
+use Rattle.diversity.proofs.LaneLaws.{lane-symbol}
+use borrow.Author.Needs.{needs}
+use Rattle.diversity.proofs.copy_symbols.Statement.{statement}
+use Rattle.diversity.proofs.copy_symbols.Tie as tie
+
+abbrev Inv-loop : tie.InvT-loop
+Inv-loop carriers offsets coded out₀ run n₀ s₀ out n s =
+    (s ≤ length offsets) × (run ≡ 2 * carriers) × (n ≡ 2 * (s * carriers)) × (length out ≡ length out₀)
+    × (out ≡ written n (λ n. getD coded (laneBit carriers offsets n) 0) out₀)
+
+abbrev μ-loop : tie.MeasureT-loop
+μ-loop carriers offsets coded out₀ run n₀ s₀ out n s = length offsets - s
+
+-- a symbol's items are within the output
+fits : (c : tie.In-loop Inv-loop μ-loop)
+    → let args = c .before .before .before .before .before .args in
+    c .before .loop .n + 2 * args .carriers ≤ length (c .before .loop .out)
+fits c =
+    let args = c .before .before .before .before .before .args in
+    omega (arith, row-within (c .before .loop .s) (args .carriers) (length (args .offsets .now)) (c .loop-test .taken))
+
+mul-run : tie.Need-mul-run Inv-loop μ-loop
+mul-run c = search needs
+
+loop-holds : tie.Need-loop-holds Inv-loop μ-loop
+loop-holds c = (search needs, refl, omega arith, refl, written-none _ _)
+
+shared-slice-read-copy-symbol : tie.Need-shared-slice-read-copy-symbol Inv-loop μ-loop
+shared-slice-read-copy-symbol c = search needs
+
+sub-copy-symbol : tie.Need-sub-copy-symbol Inv-loop μ-loop
+sub-copy-symbol c = omega (arith, fits (c .before))
+
+part-copy-symbol-start : tie.Need-part-copy-symbol-start Inv-loop μ-loop
+part-copy-symbol-start c = omega (arith, fits (c .before))
+
+part-copy-symbol-end : tie.Need-part-copy-symbol-end Inv-loop μ-loop
+part-copy-symbol-end c = search needs
+
+copy-symbol-requires : tie.Need-copy-symbol-requires Inv-loop μ-loop
+copy-symbol-requires c κs =
+    (c .before .before .before .before .before .before .before .pre .0, simp (length-take, length-drop) (omega (arith, fits (c .before .before))))
+
+add-n : tie.Need-add-n Inv-loop μ-loop
+add-n c = omega (arith, fits (c .before .before .before .before .before))
+
+add-s : tie.Need-add-s Inv-loop μ-loop
+add-s c = search needs
+
+loop-less : tie.Need-loop-less Inv-loop μ-loop
+loop-less c = search needs
+
+loop-again : tie.Need-loop-again Inv-loop μ-loop
+loop-again c =
+    let turn = c .before .before .before .before .before in
+    let at = turn .before .loop in
+    let args = turn .before .before .before .before .before .args in (
+      search needs,
+      refl,
+      omega (arith, row-next (at .s) (args .carriers)),
+      omega arith,
+      written-part _ _ _ _ _ _ _ (at .inv .4) (omega (arith, fits turn))
+          (λ j l. ap (λ (b : ℕ). getD (args .coded .now) b 0) (lane-symbol (args .carriers) (args .offsets .now) (at .s) (at .n) j (at .inv .2) l))
+          (c .before .before .copy-symbol .ensures),
+    )
+
+same-length : tie.Need-same-length Inv-loop μ-loop
+same-length c = search needs
+
+returns : tie.Need-returns Inv-loop μ-loop
+returns c = written-all _ _ _ _ _ (c .before .loop .inv .4) (rows-all _ _ _ _ (c .before .loop .inv .2) (omega arith))
+
+pub copy-symbols-spec : {M : Type 1} → statement M
+copy-symbols-spec =
+    tie.close
+    (tie.spec
+    Inv-loop
+    μ-loop
+    mul-run
+    loop-holds
+    shared-slice-read-copy-symbol
+    sub-copy-symbol
+    part-copy-symbol-start
+    part-copy-symbol-end
+    copy-symbol-requires
+    add-n
+    add-s
+    loop-less
+    loop-again
+    same-length
+    returns)

@@ -1,0 +1,6 @@
+pub mod Votes
+pub mod Damage
+pub mod Bands
+pub mod Units
+pub mod Lanes
+pub mod Counters

@@ -1,0 +1,87 @@
+-- The channel interleaver's laws, for callers: at every defined kind and rate the source bits of the coded bits are a permutation, and
+-- `source` and `codedAt` undo each other. Assumes nothing.
+use mathlib.Core.Path.{_≡_, refl, sym, ap, _∙_}
+use mathlib.Core.List.{List}
+use Prim.Native.Nat.{ℕ, _+_, _*_, _/_, _<_, _≤_}
+use native.Mathlib.Nat.{le-of-suc-le-suc}
+use native.Mathlib.Omega.{arith}
+use lib.ListN.{length, getD}
+use Rattle.bits.specs.Lists.{tabulate}
+use Rattle.bits.specs.Permutations.{Permutes, Once}
+use Rattle.bits.proofs.ListLaws.{getD-tabulate, tabulate-of}
+use Rattle.bits.proofs.PermutationLaws.{once}
+use Rattle.bits.proofs.RangeLaws.{agree, under₂}
+use Rattle.card.specs.Modes.{blockBytes}
+use Rattle.interleaver.specs.Layouts.{Defined, groups, layoutOf}
+use Rattle.interleaver.specs.Source.{codedBits, source, codedAt}
+use Rattle.interleaver.proofs.Extra.{inverse-after, after-inverse, inverse-lt}
+use Rattle.interleaver.proofs.LayoutLaws.{sound-of}
+use Rattle.interleaver.proofs.SourceLaws.{source-permutes}
+
+-- the defined kinds and rates
+pub defined-half : (kind : ℕ) → kind < 5 → Defined kind 0
+defined-half kind h = record { kind-lt = h; rate-lt = omega arith; high-rate = λ e. absurd (omega arith) }
+
+pub defined-high : Defined 4 1
+defined-high = record { kind-lt = omega arith; rate-lt = omega arith; high-rate = λ e. refl }
+
+-- at rate 1/2 a byte of the block makes 16 coded bits; at 16/18 the 520 bytes make 4,680
+pub coded-half : (kind : ℕ) → kind < 5 → codedBits kind 0 ≡ blockBytes kind * 16
+unfolding codedBits
+coded-half kind h = agree 5 (λ k. (blockBytes k * 2 + blockBytes k * 2 / 1) * 4) (λ k. blockBytes k * 16) tt kind h
+
+pub coded-high : codedBits 4 1 ≡ 4680
+unfolding codedBits
+coded-high = refl
+
+module _ (kind rate : ℕ) (D : Defined kind rate) where
+  pub coded-le : codedBits kind rate ≤ 8320
+  unfolding codedBits
+  coded-le =
+      le-of-suc-le-suc
+      (under₂ 5 2 8321 (λ k r. (blockBytes k * 2 + blockBytes k * 2 / getD groups r 0) * 4) tt kind rate (D .kind-lt) (D .rate-lt))
+
+  -- the interleaver is a permutation of the coded bits
+  pub permutes : Permutes (codedBits kind rate) (source kind rate)
+  unfolding codedBits source
+  permutes = source-permutes (layoutOf kind rate) (sound-of kind rate D)
+
+  pub source-once : Once (codedBits kind rate) (source kind rate)
+  source-once = once (codedBits kind rate) (source kind rate) permutes
+
+  pub source-lt : (i : ℕ) → i < codedBits kind rate → source kind rate i < codedBits kind rate
+  source-lt = permutes .below
+
+  pub coded-lt : (k : ℕ) → k < codedBits kind rate → codedAt kind rate k < codedBits kind rate
+  unfolding codedAt
+  coded-lt = inverse-lt (codedBits kind rate) (source kind rate) permutes
+
+  pub source-coded : (k : ℕ) → k < codedBits kind rate → source kind rate (codedAt kind rate k) ≡ k
+  unfolding codedAt
+  source-coded = after-inverse (codedBits kind rate) (source kind rate) permutes
+
+  pub coded-source : (i : ℕ) → i < codedBits kind rate → codedAt kind rate (source kind rate i) ≡ i
+  unfolding codedAt
+  coded-source = inverse-after (codedBits kind rate) (source kind rate) permutes
+
+  -- deinterleaving what was interleaved gives the bits back, and the other way round
+  pub deinterleave-interleave : (d : ℕ → ℕ) (k : ℕ) → k < codedBits kind rate → d (source kind rate (codedAt kind rate k)) ≡ d k
+  deinterleave-interleave d k h = ap d (source-coded k h)
+
+  pub interleave-deinterleave : (d : ℕ → ℕ) (i : ℕ) → i < codedBits kind rate → d (codedAt kind rate (source kind rate i)) ≡ d i
+  interleave-deinterleave d i h = ap d (coded-source i h)
+
+  -- what is read back shuffles into what was read, and it is the only list that does
+  pub read-back : (ys : List ℕ) → length ys ≡ codedBits kind rate
+      → tabulate (codedBits kind rate) (λ i. getD (tabulate (codedBits kind rate) (λ k. getD ys (codedAt kind rate k) 0)) (source kind rate i) 0) ≡ ys
+  read-back ys l =
+      sym (tabulate-of (codedBits kind rate) _ 0 ys l (λ i h.
+      sym (getD-tabulate (codedBits kind rate) (λ k. getD ys (codedAt kind rate k) 0) (source kind rate i) 0 (source-lt i h) ∙ interleave-deinterleave (λ k. getD ys k 0) i h)))
+
+  pub only-back : (xs ys : List ℕ) → length xs ≡ codedBits kind rate → tabulate (codedBits kind rate) (λ i. getD xs (source kind rate i) 0) ≡ ys
+      → xs ≡ tabulate (codedBits kind rate) (λ k. getD ys (codedAt kind rate k) 0)
+  only-back xs ys l e =
+      tabulate-of (codedBits kind rate) (λ k. getD ys (codedAt kind rate k) 0) 0 xs l (λ k h.
+      sym
+      (ap (λ (zs : List ℕ). getD zs (codedAt kind rate k) 0) (sym e)
+      ∙ getD-tabulate (codedBits kind rate) (λ i. getD xs (source kind rate i) 0) (codedAt kind rate k) 0 (coded-lt k h) ∙ deinterleave-interleave (λ i. getD xs i 0) k h))

@@ -1,0 +1,47 @@
+-- The layouts of the table are sound and small. Assumes nothing.
+use mathlib.Core.Path.{_≡_, ap}
+use Prim.Native.Nat.{ℕ, zero, _+_, _*_, _/_, _<_}
+use native.Mathlib.Omega.{arith}
+use lib.Dec.{ltb, ltb→lt, leb, leb→le}
+use lib.ListN.{getD}
+use borrow.Author.Tests.{eqb-true}
+use Rattle.bits.proofs.RangeLaws.{at-each, agree₂, under, under₂}
+use Rattle.card.specs.Modes.{blockBytes}
+use Rattle.interleaver.specs.declared.Layout.{Layout}
+use Rattle.interleaver.specs.Source.{codedOf, codedBits}
+use Rattle.interleaver.specs.Layouts.{Defined, Sound, Small, offsets, steps, groups, leads, layoutOf}
+
+module _ (kind rate : ℕ) (D : Defined kind rate) where
+  -- its row of the table
+  row-lt : kind + rate < 6
+  row-lt = omega arith
+
+  pub group-in : zero < getD groups rate 0
+  group-in = ltb→lt 0 (getD groups rate 0) (at-each 2 (λ r. ltb 0 (getD groups r 0)) tt rate (D .rate-lt))
+
+  pub rows-in : blockBytes kind * 2 < 65536
+  rows-in = under 5 65536 (λ k. blockBytes k * 2) tt kind (D .kind-lt)
+
+  pub sound-of : Sound (layoutOf kind rate)
+  sound-of =
+      record {
+        step-pos = ltb→lt 0 (getD steps (kind + rate) 0) (at-each 6 (λ m. ltb 0 (getD steps m 0)) tt (kind + rate) row-lt);
+        group-pos = group-in;
+        lead-le = leb→le (getD leads rate 0) (getD groups rate 0) (at-each 2 (λ r. leb (getD leads r 0) (getD groups r 0)) tt rate (D .rate-lt));
+        rows-are = agree₂ 5 2 (λ k r. blockBytes k * 2) (λ k r. blockBytes k * 2 / getD groups r 0 * getD groups r 0) tt kind rate (D .kind-lt) (D .rate-lt);
+        continuous-ok = λ e. let r = eqb-true rate 1 e in let k = D .high-rate r in (71, 6, rw (r, k));
+      }
+
+  pub small-of : Small (layoutOf kind rate)
+  small-of =
+      record {
+        rows-lt = rows-in;
+        parity-lt = under₂ 5 2 65536 (λ k r. blockBytes k * 2 / getD groups r 0) tt kind rate (D .kind-lt) (D .rate-lt);
+        step-lt = under 6 65536 (λ m. getD steps m 0) tt (kind + rate) row-lt;
+        offset-lt = under 6 65536 (λ m. getD offsets m 0) tt (kind + rate) row-lt;
+        group-lt = under 2 65536 (λ r. getD groups r 0) tt rate (D .rate-lt);
+      }
+
+pub coded-is : (kind rate : ℕ) (L : Layout) → L ≡ layoutOf kind rate → codedOf L ≡ codedBits kind rate
+unfolding codedBits
+coded-is kind rate L e = ap codedOf e

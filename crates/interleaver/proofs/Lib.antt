@@ -1,0 +1,6 @@
+pub mod Extra
+pub mod PassLaws
+pub mod SourceLaws
+pub mod LayoutLaws
+pub mod StoreLaws
+pub mod InterleaverLaws

@@ -1,0 +1,88 @@
+-- `interleaver::layout_of` meets its contract. Assumes nothing.
+use mathlib.Core.Path.{_≡_, ap, subst, sym}
+use Prim.Native.Nat.{_+_, _*_, _/_}
+use native.Mathlib.Omega.{arith}
+use lib.Dec.{eqb}
+use lib.ListN.{getD}
+use Rattle.interleaver.specs.declared.Layout.{Layout}
+use Rattle.interleaver.specs.Layouts.{Sound, Small, layoutOf, offsets, steps, groups, leads}
+use Rattle.interleaver.proofs.LayoutLaws.{group-in, rows-in, sound-of, small-of}
+use borrow.Author.Needs.{needs}
+use Rattle.interleaver.proofs.layout_of.Statement.{statement}
+use Rattle.interleaver.proofs.layout_of.Tie as tie
+
+block-bytes-requires : tie.Need-block-bytes-requires
+block-bytes-requires c κs = search needs
+
+mul-rows : tie.Need-mul-rows
+mul-rows c = omega (arith, c .block-bytes .ensures, rows-in (c .before .args .kind) (c .before .args .rate) (c .before .pre))
+
+mul-group : tie.Need-mul-group
+mul-group c = search needs
+
+array-read-group : tie.Need-array-read-group
+array-read-group c = search needs
+
+div-t5 : tie.Need-div-t5
+div-t5 c = group-in (c .before .args .kind) (c .before .args .rate) (c .before .pre)
+
+add-t9 : tie.Need-add-t9
+add-t9 c = search needs
+
+mul-t11 : tie.Need-mul-t11
+mul-t11 c = search needs
+
+array-read-t14 : tie.Need-array-read-t14
+array-read-t14 c = search needs
+
+add-t16 : tie.Need-add-t16
+add-t16 c = search needs
+
+mul-t17 : tie.Need-mul-t17
+mul-t17 c = search needs
+
+array-read-t20 : tie.Need-array-read-t20
+array-read-t20 c = search needs
+
+mul-t22 : tie.Need-mul-t22
+mul-t22 c = search needs
+
+array-read-t25 : tie.Need-array-read-t25
+array-read-t25 c = search needs
+
+returns : tie.Need-returns
+returns c =
+    let kind = c .before .args .kind in
+    let rate = c .before .args .rate in
+    let e : _≡_ {A = Layout} _ (layoutOf kind rate) =
+    ap (λ bytes.
+    record {
+      rows = bytes * 2;
+      parity = bytes * 2 / getD groups rate 0;
+      step = getD steps (kind + rate) 0;
+      offset = getD offsets (kind + rate) 0;
+      group = getD groups rate 0;
+      lead = getD leads rate 0;
+      continuous = eqb rate 1;
+    })
+    (c .block-bytes .ensures) in
+    (e, subst Sound (sym e) (sound-of kind rate (c .before .pre)), subst Small (sym e) (small-of kind rate (c .before .pre)))
+
+pub layout-of-spec : {M : Type 1} → statement M
+layout-of-spec =
+    tie.close
+    (tie.spec
+    block-bytes-requires
+    mul-rows
+    mul-group
+    array-read-group
+    div-t5
+    add-t9
+    mul-t11
+    array-read-t14
+    add-t16
+    mul-t17
+    array-read-t20
+    mul-t22
+    array-read-t25
+    returns)

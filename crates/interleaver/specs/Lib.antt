@@ -1,0 +1,4 @@
+pub mod Rows
+pub mod Layouts
+pub mod Source
+pub mod Stores

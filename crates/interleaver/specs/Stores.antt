@@ -1,0 +1,17 @@
+-- Stores into a buffer, one after the other. Assumes nothing.
+use mathlib.Core.Bool.{Bool, cond}
+use mathlib.Core.List.{List}
+use Prim.Native.Nat.{ℕ, zero, suc}
+use lib.ListN.{set}
+
+-- the buffer after v 0 is stored at w 0, v 1 at w 1 and so on, n stores in all
+unfoldable pub stored : ℕ → (ℕ → ℕ) → (ℕ → ℕ) → List ℕ → List ℕ
+stored zero w v out = out
+stored (suc n) w v out = set (stored n w v out) (w n) (v n)
+
+-- where the i-th bit of an order s is stored, and where it is read: on the way out bit i is read at s i, on the way back bit s i at i
+abbrev pub target : Bool → (ℕ → ℕ) → ℕ → ℕ
+target back s i = cond back (s i) i
+
+abbrev pub origin : Bool → (ℕ → ℕ) → ℕ → ℕ
+origin back s i = cond back i (s i)

@@ -1,0 +1,81 @@
+// Prints, for each kind and rate, the source bit numbers of coded bits 0, 1 and so on, as the interleaver puts them in order.
+use libc::STDOUT_FILENO;
+ghost use mathlib.Core.Path.{_≡_};
+ghost use Prim.Native.Nat.{_<_, _≤_};
+ghost use lib.ListN.{length};
+ghost use Rattle.interleaver.specs.Layouts.{Defined};
+ghost use Rattle.interleaver.specs.Source.{codedBits};
+
+// Room for the coded bits of any block.
+fn room() -> [u8; 8320]
+    ensures { λ r. ⌜ 8320 ≡ length r ⌝ }
+{
+    [0u8; 8320]
+}
+
+// The number of two bytes.
+fn joined(high: u8, low: u8) -> u64 {
+    (high as u64) * 256 + (low as u64)
+}
+
+// One byte of each index: the lower one where unit is 1, the upper one where it is 256.
+fn number(s: &mut [u8], unit: usize)
+    requires { ⌜ 0 < unit ⌝ }
+{
+    let mut i: usize = 0;
+    while i < s.len() {
+        s[i] = (i / unit % 256) as u8;
+        i += 1;
+    }
+}
+
+// Those bytes in coded order.
+fn shuffle(kind: usize, rate: usize, unit: usize, out: &mut [u8])
+    requires { ⌜ (Defined kind rate) × (0 < unit) × (codedBits kind rate ≤ length (now out)) ⌝ }
+{
+    let n = interleaver::coded_bits(kind, rate);
+    let mut bits = room();
+    number(&mut bits, unit);
+    interleaver::interleave(kind, rate, &bits[..n], out);
+}
+
+// A line of n numbers.
+fn print_numbers(n: usize, high: &[u8], low: &[u8])
+    requires { ⌜ (n ≤ length (now high)) × (n ≤ length (now low)) ⌝ }
+{
+    let mut i: usize = 0;
+    while i < n {
+        if 0 < i {
+            io::write_all(STDOUT_FILENO, b" ");
+        }
+        io::print_decimal(STDOUT_FILENO, joined(high[i], low[i]));
+        i += 1;
+    }
+    io::write_all(STDOUT_FILENO, b"\n");
+}
+
+// The two lines of a kind and rate.
+fn print_layout(kind: usize, rate: usize)
+    requires { ⌜ Defined kind rate ⌝ }
+{
+    io::write_all(STDOUT_FILENO, b"kind ");
+    io::print_decimal(STDOUT_FILENO, kind as u64);
+    io::write_all(STDOUT_FILENO, b" rate ");
+    io::print_decimal(STDOUT_FILENO, rate as u64);
+    io::write_all(STDOUT_FILENO, b"\n");
+    let n = interleaver::coded_bits(kind, rate);
+    let mut high = room();
+    let mut low = room();
+    shuffle(kind, rate, 256, &mut high);
+    shuffle(kind, rate, 1, &mut low);
+    print_numbers(n, &high, &low);
+}
+
+fn main() {
+    let mut kind: usize = 0;
+    while kind < 5 {
+        print_layout(kind, 0);
+        kind += 1;
+    }
+    print_layout(4, 1);
+}

@@ -1,0 +1,80 @@
+// The scrambler of a payload block: a register of ten stages, and the exclusive-or of its bits with the block.
+//
+// Internal: nothing here is a public entry. A function with a `requires` is called only where its caller has shown it.
+ghost use mathlib.Core.Path.{_≡_};
+ghost use mathlib.Core.List.{_++_};
+ghost use Prim.Native.Nat.{_≤_};
+ghost use lib.ListN.{length, drop};
+ghost use Rattle.bits.specs.Bits.{pack};
+ghost use Rattle.scrambler.specs.Scrambler.{feedback, shifted, afterShifts, scramblerBit, allOnes, scramble};
+
+// Ten stages: stage i is bit i - 1. A step ignores the bits above them.
+pub struct Register(pub u16);
+
+// A bit, and the register after it.
+pub struct Stepped {
+    pub bit: u8,
+    pub register: Register,
+}
+
+// Eight bits, the first the most significant, and the register after them.
+pub struct SteppedByte {
+    pub byte: u8,
+    pub register: Register,
+}
+
+impl Register {
+    // What every block starts from.
+    pub const ALL_ONES: Register = Register(1023);
+
+    // A register for a new block.
+    pub fn new() -> Self
+        ensures { λ r. ⌜ r .0 ≡ allOnes ⌝ }
+    {
+        Self::ALL_ONES
+    }
+
+    // The bit is taken from stages 3 and 10 before the shift, and enters at stage 1.
+    pub fn step(self) -> Stepped
+        ensures { λ r. ⌜ (r .bit ≡ feedback (self .0)) × (r .register .0 ≡ shifted (self .0)) ⌝ }
+    {
+        let r = self.0;
+        let bit = ((r >> 2) ^ (r >> 9)) % 2;
+        let shifted = r % 512 * 2 + bit;
+        Stepped {
+            bit: bit as u8,
+            register: Register(shifted),
+        }
+    }
+
+    // Eight steps.
+    pub fn step_byte(self) -> SteppedByte
+        ensures { λ r. ⌜ (r .byte ≡ pack 8 (scramblerBit (self .0))) × (r .register .0 ≡ afterShifts (self .0) 8) ⌝ }
+    {
+        let mut register = self;
+        let mut byte: u8 = 0;
+        let mut i: usize = 0;
+        while i < 8 {
+            let stepped = register.step();
+            byte = byte * 2 + stepped.bit;
+            register = stepped.register;
+            i += 1;
+        }
+        SteppedByte { byte, register }
+    }
+}
+
+// A block, scrambled, at the start of `out`. Done twice it gives the block back, so it descrambles too.
+pub fn scramble(bytes: &[u8], out: &mut [u8])
+    requires { ⌜ length (now bytes) ≤ length (now out) ⌝ }
+    ensures { λ _. ⌜ now (out .exit) ≡ scramble (now (bytes .entry)) ++ drop (length (now (bytes .entry))) (now (out .entry)) ⌝ }
+{
+    let mut register = Register::new();
+    let mut i: usize = 0;
+    while i < bytes.len() {
+        let stepped = register.step_byte();
+        out[i] = bytes[i] ^ stepped.byte;
+        register = stepped.register;
+        i += 1;
+    }
+}

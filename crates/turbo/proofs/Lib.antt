@@ -1,0 +1,6 @@
+pub mod Extra
+pub mod RingLaws
+pub mod InterleaveLaws
+pub mod PunctureLaws
+pub mod StepLaws
+pub mod ParityLaws

@@ -1,0 +1,33 @@
+-- The parity bits of a block that are kept, in order. Assumes nothing.
+use mathlib.Core.Path.{_≡_}
+use mathlib.Core.List.{List}
+use Prim.Native.Nat.{ℕ, zero, suc, _/_, _%_, _≤_, _<_}
+use lib.ListN.{length, getD}
+use Rattle.bits.specs.Bits.{bitOf}
+use Rattle.card.specs.Modes.{blockBytes}
+use Rattle.turbo.specs.declared.States.{States}
+use Rattle.turbo.specs.Pairs.{pairCount, pairAt}
+use Rattle.turbo.specs.Encoder.{ringStart, parityAt}
+use Rattle.turbo.specs.Interleave.{interleaved}
+use Rattle.turbo.specs.Puncture.{keptTime}
+
+-- the pairs that encoder 1 (index 0) and encoder 2 (index 1) read of the data bits d
+unfoldable pub inputOf : ℕ → (ℕ → ℕ) → ℕ → ℕ → ℕ
+inputOf kind d zero t = pairAt d t
+inputOf kind d (suc e) t = interleaved kind (pairAt d) t
+
+-- kept parity bit i: for the kept times t rising, p(t) of encoder 1, then q(t) of encoder 2
+unfoldable pub keptBit : ℕ → ℕ → ℕ → (ℕ → ℕ) → ℕ → ℕ
+keptBit kind rate taps d i = parityAt kind taps (inputOf kind d (i % 2)) (keptTime kind rate (i / 2))
+
+-- what both passes go over: a block's bytes, and the pairs that encoder 2 reads of them
+pub record Inputs (kind : ℕ) (bytes second : List ℕ) : Type 0 where
+  pub defined : kind < 5
+  pub whole : length bytes ≡ blockBytes kind
+  pub room : pairCount kind ≤ length second
+  pub held : (t : ℕ) → t < pairCount kind → getD second t 0 ≡ inputOf kind (bitOf bytes) 1 t
+
+-- the states are those in which pass two starts
+pub record Started (kind taps : ℕ) (bytes : List ℕ) (s : States) : Type 0 where
+  pub one : s .first ≡ ringStart kind taps (inputOf kind (bitOf bytes) 0)
+  pub two : s .second ≡ ringStart kind taps (inputOf kind (bitOf bytes) 1)

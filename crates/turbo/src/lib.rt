@@ -1,0 +1,383 @@
+// Turbo encoding of a block (000, 5.1.5.3): the parity bits of two constituent encoders, each of which goes over the block's
+// pairs twice, so that it ends where it began, the interleaver before the second, and puncturing.
+//
+// Internal: nothing here is a public entry. A function with a `requires` is called only where its caller has shown it.
+ghost use mathlib.Core.Path.{_≡_};
+ghost use mathlib.Core.Bool.{cond, not};
+ghost use Prim.Native.Nat.{ℕ, _+_, _-_, _*_, _%_, _<_, _≤_};
+ghost use lib.Dec.{eqb};
+ghost use lib.ListN.{length, getD};
+ghost use Rattle.bits.specs.Bits.{bitOf};
+ghost use Rattle.bits.specs.Lists.{written};
+ghost use Rattle.bits.specs.Sums.{count};
+ghost use Rattle.card.specs.Modes.{blockBytes};
+ghost use Rattle.turbo.specs.Pairs.{pairCount, pairAt};
+ghost use Rattle.turbo.specs.Encoder.{next, parity, startOf};
+ghost use Rattle.turbo.specs.Interleave.{Interleaving, exchangedAt, interleavedPairs};
+ghost use Rattle.turbo.specs.Puncture.{kept, keptCount};
+ghost use Rattle.turbo.specs.Parity.{inputOf, keptBit, Inputs, Started};
+
+// The tables S of all kinds, one after the other, and where each starts and ends.
+const STARTS: [u16; 133] = [
+    53,
+    20,
+    9,
+    32,
+    62,
+    39,
+    51,
+    18,
+    1,
+    200,
+    255,
+    166,
+    221,
+    132,
+    187,
+    98,
+    153,
+    64,
+    119,
+    30,
+    85,
+    284,
+    51,
+    250,
+    17,
+    216,
+    383,
+    68,
+    262,
+    180,
+    484,
+    363,
+    302,
+    152,
+    405,
+    529,
+    97,
+    11,
+    333,
+    509,
+    40,
+    198,
+    236,
+    454,
+    428,
+    124,
+    273,
+    493,
+    73,
+    389,
+    162,
+    293,
+    2,
+    211,
+    467,
+    252,
+    411,
+    183,
+    310,
+    86,
+    309,
+    175,
+    737,
+    667,
+    1024,
+    224,
+    622,
+    962,
+    527,
+    845,
+    926,
+    1052,
+    366,
+    54,
+    249,
+    784,
+    108,
+    551,
+    410,
+    479,
+    823,
+    866,
+    442,
+    654,
+    321,
+    33,
+    85,
+    610,
+    730,
+    765,
+    1038,
+    352,
+    954,
+    1183,
+    32,
+    425,
+    1434,
+    165,
+    331,
+    1574,
+    1039,
+    1084,
+    1332,
+    1513,
+    536,
+    213,
+    1908,
+    761,
+    1231,
+    1659,
+    476,
+    1842,
+    809,
+    2007,
+    895,
+    1717,
+    1950,
+    101,
+    937,
+    618,
+    1606,
+    704,
+    1786,
+    570,
+    843,
+    349,
+    2038,
+    1102,
+    1260,
+    235,
+    40,
+    648,
+    1347,
+];
+
+const ENDS: [usize; 6] = [0, 8, 26, 60, 93, 133];
+
+// The rows of M.
+const ROW1: [u8; 5] = [1, 1, 3, 5, 1];
+
+const ROW2: [u8; 5] = [5, 5, 4, 7, 5];
+
+const ROW3: [u8; 5] = [7, 7, 2, 6, 7];
+
+// The puncturing row of each rate, its first place in the highest bit.
+const KEPT: [u16; 2] = [0b1111111111111111, 0b1000000010000000];
+
+// The pairs of a block.
+fn pairs(kind: usize) -> usize
+    requires { ⌜ kind < 5 ⌝ }
+    ensures { λ r. ⌜ r ≡ pairCount kind ⌝ }
+{
+    4 * card::block_bytes(kind)
+}
+
+// Pair t of some bytes.
+fn pair_at(bytes: &[u8], t: usize) -> u8
+    requires { ⌜ t < 4 * length (now bytes) ⌝ }
+    ensures { λ r. ⌜ r ≡ pairAt (bitOf (now (bytes .entry))) t ⌝ }
+{
+    let b = bytes[t / 4];
+    (b >> (6 - 2 * (t % 4))) % 4
+}
+
+// The step of an encoder with a pair.
+fn step(taps: u16, state: u8, pair: u8) -> u8
+    requires { ⌜ (state < 8) × (pair < 4) ⌝ }
+    ensures { λ r. ⌜ r ≡ next taps state pair ⌝ }
+{
+    let free = state % 2 * 4 + state / 4 * 2 + (state / 2 + state) % 2;
+    let b1 = (taps / 256 % 8) as u8;
+    let b2 = (taps / 32 % 8) as u8;
+    free ^ ((pair / 2 * b1) ^ (pair % 2 * b2))
+}
+
+// The parity bit of a pair: whether the ones among the tapped bits of state and inputs are odd in number.
+fn parity_bit(taps: u16, state: u8, pair: u8) -> u8
+    requires { ⌜ (state < 8) × (pair < 4) ⌝ }
+    ensures { λ r. ⌜ r ≡ parity taps state pair ⌝ }
+{
+    let word = state * 4 + pair;
+    let mask = (taps % 32) as u8;
+    (u8::count_ones(word & mask) % 2) as u8
+}
+
+// Where pass two starts when pass one ended at sn.
+fn start_of(kind: usize, sn: u8) -> u8
+    requires { ⌜ (kind < 5) × (sn < 8) ⌝ }
+    ensures { λ r. ⌜ r ≡ startOf kind sn ⌝ }
+{
+    (sn / 4 % 2 * ROW1[kind]) ^ ((sn / 2 % 2 * ROW2[kind]) ^ (sn % 2 * ROW3[kind]))
+}
+
+// Whether the parity bits of time t are kept.
+fn is_kept(rate: usize, t: usize) -> bool
+    requires { ⌜ rate < 2 ⌝ }
+    ensures { λ r. ⌜ r ≡ kept rate t ⌝ }
+{
+    let row = KEPT[rate];
+    (row >> (15 - t % 16)) % 2 == 1
+}
+
+// How many parity bits of a block are kept.
+pub fn kept_count(kind: usize, rate: usize) -> usize
+    requires { ⌜ (kind < 5) × (rate < 2) ⌝ }
+    ensures { λ r. ⌜ r ≡ keptCount kind rate ⌝ }
+{
+    let ones = u16::count_ones(KEPT[rate]) as usize;
+    pairs(kind) / 8 * ones
+}
+
+// (start − base + l) mod l, by one test.
+fn wrapped(start: usize, base: usize, l: usize) -> usize
+    requires { ⌜ (start < l) × (base < l) × (l < 2081) ⌝ }
+    ensures { λ r. ⌜ r ≡ (start + l - base) % l ⌝ }
+{
+    if base <= start {
+        start - base
+    } else {
+        start + l - base
+    }
+}
+
+// The column after one of n, from the last one back to the first.
+fn next_column(column: usize, n: usize) -> usize
+    requires { ⌜ column < n ⌝ }
+    ensures { λ r. ⌜ r ≡ (column + 1) % n ⌝ }
+{
+    if column + 1 == n { 0 } else { column + 1 }
+}
+
+// A pair as it goes out at x.
+fn exchange(x: usize, pair: u8) -> u8
+    ensures { λ r. ⌜ r ≡ exchangedAt x pair ⌝ }
+{
+    if x % 2 == 0 {
+        pair % 2 * 2 + pair / 2 % 2
+    } else {
+        pair
+    }
+}
+
+// The pairs of some bytes as the interleaver of a table gives them, at the start of `out`. The column is x mod N.
+fn interleave(starts: &[u16], bytes: &[u8], out: &mut [u8])
+    requires { ⌜ Interleaving (now starts) (now bytes) (now out) ⌝ }
+    ensures { λ _. ⌜ now (out .exit) ≡ written (4 * length (now (bytes .entry))) (interleavedPairs (now (starts .entry)) (now (bytes .entry))) (now (out .entry)) ⌝ }
+{
+    let l = 4 * bytes.len();
+    let n = starts.len();
+    let mut column: usize = 0;
+    let mut x: usize = 0;
+    while x < l {
+        let start = starts[column] as usize;
+        let from = wrapped(start, x - column, l);
+        out[x] = exchange(x, pair_at(bytes, from));
+        column = next_column(column, n);
+        x += 1;
+    }
+}
+
+// The pairs that encoder 2 reads, at the start of `out`.
+fn second_input(kind: usize, bytes: &[u8], out: &mut [u8])
+    requires { ⌜ (kind < 5) × (length (now bytes) ≡ blockBytes kind) × (pairCount kind ≤ length (now out)) ⌝ }
+    ensures { λ _. ⌜ now (out .exit) ≡ written (pairCount kind) (inputOf kind (bitOf (now (bytes .entry))) 1) (now (out .entry)) ⌝ }
+{
+    let starts = STARTS;
+    let from = ENDS[kind];
+    let to = ENDS[kind + 1];
+    interleave(&starts[from..to], bytes, out);
+}
+
+// The states of encoder 1 and encoder 2.
+pub struct States {
+    pub first: u8,
+    pub second: u8,
+}
+
+// Pass one of both encoders: where pass two starts. `second` holds the pairs that encoder 2 reads.
+fn ring_starts(kind: usize, taps: u16, bytes: &[u8], second: &[u8]) -> States
+    requires { ⌜ Inputs kind (now bytes) (now second) ⌝ }
+    ensures { λ r. ⌜ Started kind taps (now (bytes .entry)) r ⌝ }
+{
+    let l = pairs(kind);
+    let mut a: u8 = 0;
+    let mut b: u8 = 0;
+    let mut t: usize = 0;
+    while t < l {
+        a = step(taps, a, pair_at(bytes, t));
+        b = step(taps, b, second[t]);
+        t += 1;
+    }
+    States {
+        first: start_of(kind, a),
+        second: start_of(kind, b),
+    }
+}
+
+// Pass two of both encoders: the kept parity bits, at the start of `out`.
+fn write_parity(
+    kind: usize,
+    rate: usize,
+    taps: u16,
+    from: States,
+    bytes: &[u8],
+    second: &[u8],
+    out: &mut [u8],
+)
+    requires { ⌜ Inputs kind (now bytes) (now second) ⌝ }
+    requires { ⌜ Started kind taps (now bytes) from ⌝ }
+    requires { ⌜ (rate < 2) × (keptCount kind rate ≤ length (now out)) ⌝ }
+    ensures { λ _. ⌜ now (out .exit) ≡ written (keptCount kind rate) (keptBit kind rate taps (bitOf (now (bytes .entry)))) (now (out .entry)) ⌝ }
+{
+    let l = pairs(kind);
+    let mut a = from.first;
+    let mut b = from.second;
+    let mut n: usize = 0;
+    let mut t: usize = 0;
+    while t < l {
+        let u = pair_at(bytes, t);
+        let v = second[t];
+        if is_kept(rate, t) {
+            out[n] = parity_bit(taps, a, u);
+            out[n + 1] = parity_bit(taps, b, v);
+            n += 2;
+        }
+        a = step(taps, a, u);
+        b = step(taps, b, v);
+        t += 1;
+    }
+}
+
+// The kept parity bits of a block, at the start of `out`. Of the taps the low eleven bits count.
+pub fn encode(kind: usize, rate: usize, taps: u16, bytes: &[u8], out: &mut [u8])
+    requires { ⌜ (kind < 5) × (rate < 2) × (length (now bytes) ≡ blockBytes kind) × (keptCount kind rate ≤ length (now out)) ⌝ }
+    ensures { λ _. ⌜ now (out .exit) ≡ written (keptCount kind rate) (keptBit kind rate taps (bitOf (now (bytes .entry)))) (now (out .entry)) ⌝ }
+{
+    let mut second = [0u8; 2080];
+    second_input(kind, bytes, &mut second);
+    let from = ring_starts(kind, taps, bytes, &second);
+    write_parity(kind, rate, taps, from, bytes, &second, out);
+}
+
+// 1 where two elements differ, and 0 where they are the same.
+fn differ(x: u8, y: u8) -> usize
+    ensures { λ r. ⌜ r ≡ cond (not (eqb x y)) 1 0 ⌝ }
+{
+    if x == y { 0 } else { 1 }
+}
+
+// How many elements of two lists of one length differ.
+pub fn disagreements(a: &[u8], b: &[u8]) -> usize
+    requires { ⌜ length (now a) ≡ length (now b) ⌝ }
+    ensures { λ r. ⌜ r ≡ count (length (now (a .entry))) (λ i. not (eqb (getD (now (a .entry)) i 0) (getD (now (b .entry)) i 0))) ⌝ }
+{
+    let mut n: usize = 0;
+    let mut i: usize = 0;
+    while i < a.len() {
+        n += differ(a[i], b[i]);
+        i += 1;
+    }
+    n
+}
