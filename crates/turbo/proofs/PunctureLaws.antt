@@ -38,6 +38,11 @@ pub remain : keptCount 4 1 ≡ 520
 unfolding ones onesIn
 remain = sym (kept-count 4 1 (lit< tt) (lit< tt))
 
+-- of 260 times
+pub remain-times : count (pairCount 4) (kept 1) ≡ 260
+unfolding keptCount
+remain-times = omega (arith, remain)
+
 -- a time that is kept is the one after as many others as are kept before it
 pub kept-time : (kind rate t : ℕ) → t < pairCount kind → kept rate t ≡ true → keptTime kind rate (count t (kept rate)) ≡ t
 unfolding keptTime

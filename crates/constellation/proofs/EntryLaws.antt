@@ -1,0 +1,122 @@
+-- The outcomes of `map_into` and `slice_into` by the tests that lead to them. Assumes nothing.
+use mathlib.Core.List.{List, [], _++_}
+use mathlib.Core.Path.{_≡_, refl, sym, ap, _∙_}
+use Prim.Native.Nat.{ℕ, zero, suc, _≤_, _<_}
+use native.Mathlib.Omega.{arith}
+use borrow.Author.Tests.{lt-ltb, le-ltb, eq-eqb, ne-eqb}
+use lib.Ieee.{Float}
+use lib.ListN.{length, getD, drop, set}
+use Rattle.bits.specs.Lists.{firstAbove}
+use Rattle.refusal.specs.declared.Refusal.{Refusal}
+use Rattle.refusal.specs.declared.Refusal.the-variants.{CardLength, Version, Mode, Pad, Length, Room, Item, Majority, Parity}
+use Rattle.refusal.specs.Report.{done, refusal}
+use Rattle.refusal.specs.Outcome.{Outcome}
+use Rattle.card.specs.Modes.{carrierBits}
+use Rattle.constellation.specs.declared.Point.{Point}
+use Rattle.constellation.specs.declared.Received.{Received}
+use Rattle.constellation.specs.declared.Received.the-variants.{Heard, Lost}
+use Rattle.constellation.specs.declared.Sliced.{Sliced}
+use Rattle.constellation.specs.declared.Sliced.the-variants.{Refused}
+use Rattle.constellation.specs.Mapping.{pointOf}
+use Rattle.constellation.specs.Slicing.{itemsOf, sliced, given, slicing}
+use Rattle.constellation.specs.Entries.{withPoint, mapOutcome, sliceOutcome}
+use Rattle.constellation.proofs.Extra.{set-two}
+
+-- a refusal that keeps the lent memory, and a success
+abbrev kept : {B : Type 0} → Refusal → B → Outcome ℕ B
+kept r out = record { report = refusal r; out = out }
+
+abbrev made : {B : Type 0} → ℕ → B → Outcome ℕ B
+made n out = record { report = done n; out = out }
+
+-- an outcome's two parts, as a contract asks them
+pub both : {B : Type 0} {o p : Outcome ℕ B} → o ≡ p → (p .report ≡ o .report) × (p .out ≡ o .out)
+both {B} e = (ap (λ (o : Outcome ℕ B). o .report) (sym e), ap (λ (o : Outcome ℕ B). o .out) (sym e))
+
+-- ---- map_into
+
+module _ (m : ℕ) (bits : List ℕ) (out : List Float) where
+  pub map-mode : 2 < m → mapOutcome m bits out ≡ kept Mode out
+  unfolding mapOutcome
+  map-mode h = simp (lt-ltb 2 m h)
+
+  pub map-length : m ≤ 2 → (length bits ≡ carrierBits m → ⊥) → mapOutcome m bits out ≡ kept (Length (length bits)) out
+  unfolding mapOutcome
+  map-length d h = simp (le-ltb 2 m d, ne-eqb (length bits) (carrierBits m) h)
+
+  module _ (defined : m ≤ 2) (exact : length bits ≡ carrierBits m) where
+    pub map-room : length out < 2 → mapOutcome m bits out ≡ kept (Room 2) out
+    unfolding mapOutcome
+    map-room h = simp (le-ltb 2 m defined, eq-eqb (length bits) (carrierBits m) exact, lt-ltb (length out) 2 h)
+
+    pub map-item : 2 ≤ length out → {k : ℕ} → k ≡ firstAbove 1 bits → k < length bits → mapOutcome m bits out ≡ kept (Item k) out
+    unfolding mapOutcome
+    map-item r e h =
+        rw e
+        (simp (
+          le-ltb 2 m defined,
+          eq-eqb (length bits) (carrierBits m) exact,
+          le-ltb (length out) 2 r,
+          lt-ltb (firstAbove 1 bits) (length bits) (rw e at h),
+        ))
+
+    pub map-done : 2 ≤ length out → length bits ≤ firstAbove 1 bits → {p : Point} → p ≡ pointOf m (λ k. getD bits k 0)
+        → mapOutcome m bits out ≡ made 2 (set (set out 0 (p .i)) 1 (p .q))
+    unfolding mapOutcome
+    map-done r h {p} e =
+        simp (
+          le-ltb 2 m defined,
+          eq-eqb (length bits) (carrierBits m) exact,
+          le-ltb (length out) 2 r,
+          le-ltb (firstAbove 1 bits) (length bits) h,
+        )
+        (ap (λ (q : Point). made 2 (withPoint q out)) (sym e) ∙ ap (made 2) (sym (set-two (p .i) (p .q) out r)))
+
+-- ---- slice_into
+
+-- a carrier has as many items as its modulation has bits
+length-items : (m : ℕ) (r : Received) → m ≤ 2 → length (itemsOf m r) ≡ carrierBits m
+length-items zero Lost h = refl
+length-items zero (Heard i q) h = refl
+length-items (suc zero) Lost h = refl
+length-items (suc zero) (Heard i q) h = refl
+length-items (suc (suc zero)) Lost h = refl
+length-items (suc (suc zero)) (Heard i q) h = refl
+length-items (suc (suc (suc m))) r h = absurd (omega arith)
+
+given-items : (m : ℕ) (r : Received) → m ≤ 2 → (s : Sliced) → sliced s ≡ slicing m r → given (sliced s) ≡ itemsOf m r
+given-items m r h s e = ap given (simp (le-ltb 2 m h) at e)
+
+-- a refusal gives no items
+given-refusal : (r : Refusal) → given (refusal r) ≡ []
+given-refusal (CardLength n) = refl
+given-refusal Version = refl
+given-refusal Mode = refl
+given-refusal (Pad n) = refl
+given-refusal (Length n) = refl
+given-refusal (Room n) = refl
+given-refusal (Item n) = refl
+given-refusal (Majority n) = refl
+given-refusal (Parity n) = refl
+
+pub refused-kept : (s : Sliced) (r : Refusal) (out : List ℕ) → s ≡ Refused r → out ≡ given (sliced s) ++ drop (length (given (sliced s))) out
+refused-kept s r out e = rw (e, given-refusal r)
+
+pub items-fit : (m : ℕ) (r : Received) → m ≤ 2 → {n k : ℕ} → n ≡ carrierBits m → n ≤ k → (s : Sliced) → sliced s ≡ slicing m r → length (given (sliced s)) ≤ k
+items-fit m r d e h s g = rw (given-items m r d s g, length-items m r d) (rw e at h)
+
+module _ (m : ℕ) (r : Received) (out : List ℕ) where
+  pub slice-mode : 2 < m → sliceOutcome m r out ≡ kept Mode out
+  unfolding sliceOutcome
+  slice-mode h = simp (lt-ltb 2 m h)
+
+  pub slice-room : m ≤ 2 → {n : ℕ} → n ≡ carrierBits m → length out < n → sliceOutcome m r out ≡ kept (Room n) out
+  unfolding sliceOutcome
+  slice-room d e h = rw e (simp (le-ltb 2 m d, lt-ltb (length out) (carrierBits m) (rw e at h)))
+
+  pub slice-done : m ≤ 2 → {n : ℕ} → n ≡ carrierBits m → n ≤ length out → (s : Sliced) → sliced s ≡ slicing m r
+      → sliceOutcome m r out ≡ made n (given (sliced s) ++ drop (length (given (sliced s))) out)
+  unfolding sliceOutcome
+  slice-done d e h s g =
+      rw (e, given-items m r d s g, length-items m r d)
+      (simp (le-ltb 2 m d, le-ltb (length out) (carrierBits m) (rw e at h)))

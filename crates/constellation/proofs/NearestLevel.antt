@@ -1,0 +1,181 @@
+-- Where a level is read it is strictly nearer to the coordinate than every other level, in exact numbers. Assumes nothing.
+use Prim.Native.Nat.{ℕ, zero, suc, _*_, _<_}
+use native.Mathlib.Omega.{arith}
+use native.Mathlib.Nat.{mul-pos}
+use mathlib.Core.Path.{_≡_, refl, sym, subst, _∙_}
+use mathlib.Core.Bool.{Bool, true, false, cond}
+use borrow.Author.Tests.{ltb-true, not-false}
+use lib.Dec.{T, eqb, lit<}
+use lib.IntN.{ℤ}
+use lib.Ieee.{Float, nan, inf, fin, up, down, add, sub, mul, lt, le}
+use lib.Ieee.Fits.{up-pos, down-pos}
+use lib.Ieee.Positive.{first-pos}
+use Rattle.constellation.specs.Factors.{factorOf}
+use Rattle.constellation.specs.Slicing.{level, lost, erasureWidth, lower, upper, read2, reading2, reading4}
+use Rattle.constellation.specs.Distances.{scaled, apart, distance, negative2, negative4, size4}
+use Rattle.constellation.proofs.Extra.{split}
+use Rattle.constellation.proofs.DecisionLaws.{Size, width-size, le-not-lt}
+
+-- ---- a size X and the unit Y
+
+-- level k is nearer than level j
+abbrev Nearer4 : Bool → ℕ → ℕ → ℕ → ℕ → Type 0
+Nearer4 s X Y k j = (j ≡ k → ⊥) → apart s X (negative4 k) (size4 k * Y) < apart s X (negative4 j) (size4 j * Y)
+
+abbrev Nearest4 : Bool → ℕ → ℕ → ℕ → Type 0
+Nearest4 s X Y k = (j : ℕ) → j < 4 → Nearer4 s X Y k j
+
+below-four : (P : ℕ → Type 0) → P 0 → P 1 → P 2 → P 3 → (j : ℕ) → j < 4 → P j
+below-four P a b c d zero h = a
+below-four P a b c d (suc zero) h = b
+below-four P a b c d (suc (suc zero)) h = c
+below-four P a b c d (suc (suc (suc zero))) h = d
+below-four P a b c d (suc (suc (suc (suc j)))) h = absurd (omega arith)
+
+module _ (X Y : ℕ) (unit : 0 < Y) where
+  inner : 0 < X → X < 2 * Y → Nearest4 false X Y 2
+  inner h k = below-four (Nearer4 false X Y 2) (λ n. omega arith) (λ n. omega arith) (λ n. absurd (n refl)) (λ n. omega arith)
+
+  outer : 2 * Y < X → Nearest4 false X Y 3
+  outer k = below-four (Nearer4 false X Y 3) (λ n. omega arith) (λ n. omega arith) (λ n. omega arith) (λ n. absurd (n refl))
+
+  inner⁻ : 0 < X → X < 2 * Y → Nearest4 true X Y 1
+  inner⁻ h k = below-four (Nearer4 true X Y 1) (λ n. omega arith) (λ n. absurd (n refl)) (λ n. omega arith) (λ n. omega arith)
+
+  outer⁻ : 2 * Y < X → Nearest4 true X Y 0
+  outer⁻ k = below-four (Nearer4 true X Y 0) (λ n. absurd (n refl)) (λ n. omega arith) (λ n. omega arith) (λ n. omega arith)
+
+-- ---- what a comparison of two sizes says in whole numbers
+
+-- a finite number of the sign +
+abbrev plus : Float → Bool
+plus nan = false
+plus (inf s) = false
+plus (fin true n e) = false
+plus (fin false n e) = true
+
+less : (x y : Float) → T (plus x) → T (plus y) → lt x y ≡ true → scaled x y < scaled y x
+unfolding lt
+less (fin false n e) (fin false k d) p q t = ltb-true _ _ t
+less nan y p q t = absurd p
+less (inf s) y p q t = absurd p
+less (fin true n e) y p q t = absurd p
+less (fin false n e) nan p q t = absurd q
+less (fin false n e) (inf s) p q t = absurd q
+less (fin false n e) (fin true k d) p q t = absurd q
+
+more : (x y : Float) → T (plus x) → T (plus y) → le x y ≡ false → scaled y x < scaled x y
+more (fin false n e) (fin false k d) p q t = less (fin false k d) (fin false n e) tt tt (not-false _ (sym (le-not-lt n k e d) ∙ t))
+more nan y p q t = absurd p
+more (inf s) y p q t = absurd p
+more (fin true n e) y p q t = absurd p
+more (fin false n e) nan p q t = absurd q
+more (fin false n e) (inf s) p q t = absurd q
+more (fin false n e) (fin true k d) p q t = absurd q
+
+-- ---- the tests of a size n · 2^e on an axis of four
+
+abbrev size : ℕ → ℤ → ℕ
+size n e = scaled (fin false n e) (factorOf 2)
+
+abbrev unit : ℕ → ℤ → ℕ
+unit n e = scaled (factorOf 2) (fin false n e)
+
+unit-pos : (n : ℕ) (e : ℤ) → 0 < unit n e
+unit-pos n e = omega (arith, down-pos e)
+
+size-pos : (n : ℕ) (e : ℤ) → le (fin false n e) (erasureWidth 2) ≡ false → 0 < size n e
+unfolding mul
+size-pos n e t = omega (arith, down-pos e, more (fin false n e) (erasureWidth 2) tt tt t)
+
+within : (n : ℕ) (e : ℤ) → lt (fin false n e) lower ≡ true → size n e < 2 * unit n e
+unfolding add sub mul
+within n e t = omega (arith, less (fin false n e) lower tt tt t)
+
+beyond : (n : ℕ) (e : ℤ) → le (fin false n e) upper ≡ false → 2 * unit n e < size n e
+unfolding add sub mul
+beyond n e t = omega (arith, more (fin false n e) upper tt tt t)
+
+-- ---- 16QAM
+
+no : {C : Type 0} {k : ℕ} → lost ≡ level k → C
+no e = let z : _≡_ {A = ℕ} 0 1 = cc in absurd (omega arith)
+
+-- what holds of the level that was read holds of k
+moved : (P : ℕ → Type 0) {i k : ℕ} → level i ≡ level k → P i → P k
+moved P {i} {k} e h = let w : i ≡ k = cc in subst P w h
+
+found4 : (s : Bool) (n : ℕ) (e : ℤ) (k : ℕ) → reading4 (fin s n e) ≡ level k → Nearest4 s (size n e) (unit n e) k
+found4 s n e k r =
+    split (le (fin false n e) (erasureWidth 2)) (λ t. no (simp t at r)) λ a.
+    split (lt (fin false n e) lower) (λ t. near s (size-pos n e a) (within n e t) (simp (a, t) at r)) λ b.
+    split (le (fin false n e) upper) (λ t. no (simp (a, b, t) at r)) λ t. wide s (beyond n e t) (simp (a, b, t) at r)
+  where
+    near : (s : Bool) → 0 < size n e → size n e < 2 * unit n e → cond s (level 1) (level 2) ≡ level k → Nearest4 s (size n e) (unit n e) k
+    near true h l e′ = moved (Nearest4 true (size n e) (unit n e)) e′ (inner⁻ _ _ (unit-pos n e) h l)
+    near false h l e′ = moved (Nearest4 false (size n e) (unit n e)) e′ (inner _ _ (unit-pos n e) h l)
+
+    wide : (s : Bool) → 2 * unit n e < size n e → cond s (level 0) (level 3) ≡ level k → Nearest4 s (size n e) (unit n e) k
+    wide true l e′ = moved (Nearest4 true (size n e) (unit n e)) e′ (outer⁻ _ _ (unit-pos n e) l)
+    wide false l e′ = moved (Nearest4 false (size n e) (unit n e)) e′ (outer _ _ (unit-pos n e) l)
+
+-- where level k is read on an axis of 16QAM, every other level is further away
+pub nearest4 : (x : Float) (k j : ℕ) → reading4 x ≡ level k → j < 4 → (j ≡ k → ⊥)
+    → distance (factorOf 2) x (negative4 k) (size4 k) < distance (factorOf 2) x (negative4 j) (size4 j)
+nearest4 nan k j e l n = no e
+nearest4 (inf s) k j e l n = no e
+nearest4 (fin s m d) k j e l n = found4 s m d k e j l n
+
+-- ---- BPSK and QPSK
+
+abbrev Nearest2 : Bool → ℕ → ℕ → ℕ → Type 0
+Nearest2 s X Y k = (j : ℕ) → j < 2 → (j ≡ k → ⊥) → apart s X (negative2 k) (1 * Y) < apart s X (negative2 j) (1 * Y)
+
+positive : (X Y : ℕ) → 0 < X → 0 < Y → Nearest2 false X Y 1
+positive X Y h k zero l n = omega arith
+positive X Y h k (suc zero) l n = absurd (n refl)
+positive X Y h k (suc (suc j)) l n = absurd (omega arith)
+
+positive⁻ : (X Y : ℕ) → 0 < X → 0 < Y → Nearest2 true X Y 0
+positive⁻ X Y h k zero l n = absurd (n refl)
+positive⁻ X Y h k (suc zero) l n = omega arith
+positive⁻ X Y h k (suc (suc j)) l n = absurd (omega arith)
+
+-- the factor is positive, and a size above the width is
+abbrev Positive : Float → Type 0
+Positive f = (k : ℕ) × (d : ℤ) × (f ≡ fin false k d) × (0 < k)
+
+factor-at : (a b : Bool) → Positive (cond a (factorOf 0) (cond b (factorOf 1) (factorOf 2)))
+factor-at true b = (_, _, refl, lit< tt)
+factor-at false true = (_, _, refl, lit< tt)
+factor-at false false = (_, _, refl, lit< tt)
+
+above-pos : (w : Float) (n : ℕ) (e : ℤ) → Size w → le (fin false n e) w ≡ false → 0 < n
+above-pos w n e p t =
+    let u = subst (λ (v : Float). le (fin false n e) v ≡ false) (p .2) t in
+    let h = more (fin false n e) (fin false (p .0) (p .1)) tt tt u in
+    let g : 0 < n * up e * down (p .1) = omega (arith, h) in
+    first-pos n (up e) (first-pos (n * up e) (down (p .1)) g)
+
+scaled-pos : (n : ℕ) (a b : ℤ) → 0 < n → 0 < n * up a * down b
+scaled-pos n a b h = mul-pos (mul-pos h (up-pos a)) (down-pos b)
+
+found2 : (w : Float) (s : Bool) (n : ℕ) (e : ℤ) (k c : ℕ) (d : ℤ) → Size w → 0 < c → read2 w (fin s n e) ≡ level k
+    → Nearest2 s (n * up e * down d) (c * up d * down e) k
+found2 w s n e k c d p q r =
+    split (le (fin false n e) w) (λ t. no (simp t at r)) λ t.
+    signed s (scaled-pos n e d (above-pos w n e p t)) (scaled-pos c d e q) (simp t at r)
+  where
+    signed : (s : Bool) {X Y : ℕ} → 0 < X → 0 < Y → cond s (level 0) (level 1) ≡ level k → Nearest2 s X Y k
+    signed true {X} {Y} h l e′ = moved (Nearest2 true X Y) e′ (positive⁻ X Y h l)
+    signed false {X} {Y} h l e′ = moved (Nearest2 false X Y) e′ (positive X Y h l)
+
+-- where level k is read on an axis of two levels, the other one is further away
+pub nearest2 : (m : ℕ) (x : Float) (k j : ℕ) → reading2 m x ≡ level k → j < 2 → (j ≡ k → ⊥)
+    → distance (factorOf m) x (negative2 k) 1 < distance (factorOf m) x (negative2 j) 1
+nearest2 m nan k j e l n = no e
+nearest2 m (inf s) k j e l n = no e
+nearest2 m (fin s a b) k j e l n =
+    let u = factor-at (eqb m 0) (eqb m 1) in
+    subst (λ (f : Float). distance f (fin s a b) (negative2 k) 1 < distance f (fin s a b) (negative2 j) 1) (sym (u .2))
+    (found2 (erasureWidth m) s a b k (u .0) (u .1) (width-size m) (u .3) e j l n)

@@ -1,0 +1,13 @@
+-- `constellation::received_of` meets its contract. Assumes nothing.
+use borrow.Author.Tests.{eq-eqb, ne-eqb}
+use Rattle.constellation.proofs.received_of.Statement.{statement}
+use Rattle.constellation.proofs.received_of.Tie as tie
+
+returns : tie.Need-returns
+returns c = simp (eq-eqb _ _ (c .if1 .taken))
+
+returns-2 : tie.Need-returns-2
+returns-2 c = simp (ne-eqb _ _ (c .if1 .left))
+
+pub received-of-spec : {M : Type 1} → statement M
+received-of-spec = tie.close (tie.spec returns returns-2)

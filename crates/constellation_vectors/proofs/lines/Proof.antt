@@ -1,0 +1,32 @@
+-- `constellation_vectors::lines` ends. The invariant: k is at most the count. Assumes nothing.
+use borrow.Author.Needs.{needs}
+use Prim.Native.Nat.{_-_, _≤_}
+use Rattle.constellation_vectors.proofs.lines.Statement.{statement}
+use Rattle.constellation_vectors.proofs.lines.Tie as tie
+
+abbrev Inv-loop : tie.InvT-loop
+Inv-loop kind modulation count k₀ k = k ≤ count
+
+abbrev μ-loop : tie.MeasureT-loop
+μ-loop kind modulation count k₀ k = count - k
+
+loop-holds : tie.Need-loop-holds Inv-loop μ-loop
+loop-holds c = search needs
+
+line-requires : tie.Need-line-requires Inv-loop μ-loop
+line-requires c κs = search needs
+
+add-k : tie.Need-add-k Inv-loop μ-loop
+add-k c = search needs
+
+loop-less : tie.Need-loop-less Inv-loop μ-loop
+loop-less c = search needs
+
+loop-again : tie.Need-loop-again Inv-loop μ-loop
+loop-again c = search needs
+
+returns : tie.Need-returns Inv-loop μ-loop
+returns c = search needs
+
+pub lines-spec : {M : Type 1} → statement M
+lines-spec = tie.close (tie.spec Inv-loop μ-loop loop-holds line-requires add-k loop-less loop-again returns)
