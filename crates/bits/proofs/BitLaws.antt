@@ -1,18 +1,20 @@
--- Laws of the bits of numbers and bytes: packing and taking apart undo each other. Assumes nothing.
+-- Laws of the bits of numbers and bytes: packing and taking apart undo each other, and exclusive-or undoes itself. Assumes nothing.
 use mathlib.Core.Path.{_≡_, refl, sym, ap, _∙_}
 use mathlib.Core.List.{List}
 use Prim.Native.Nat.{ℕ, zero, suc, _+_, _-_, _*_, _/_, _%_, _^_, _≤_, _<_}
-use native.Mathlib.Nat.{add-zero, add-assoc, mul-assoc, eq-or-lt-of-le, le-of-suc-le-suc, not-suc-le-zero}
+use native.Mathlib.Nat.{add-zero, add-suc, add-assoc, mul-assoc, eq-or-lt-of-le, le-of-suc-le-suc, not-suc-le-zero, div-add-mod'}
 use mathlib.Core.Logic.{_⊎_, inl, inr}
 use native.Mathlib.Numerals.{add-one, one-add}
 use native.Mathlib.Omega.{arith}
-use lib.Arith.{digits-div, digits-mod}
+use lib.Arith.{bin-ind, digits-div, digits-mod}
+use lib.Bits.{bitXor, differ, xor-step, xor-self, xor-block}
 use lib.ListN.{length, getD}
 use lib.Pow.{pow-pos, pow-add, shr-shr, mod-pow-add}
 use lib.Seq.{ext-getD}
 use Rattle.bits.specs.Lists.{tabulate}
-use Rattle.bits.specs.Bits.{bitAt, bitOf, pack, byteOf, field, bitsOf, bytesOf}
+use Rattle.bits.specs.Bits.{bitAt, bitOf, pack, byteOf, field, bytesOf}
 use Rattle.bits.proofs.ListLaws.{length-tabulate, getD-tabulate, tabulate-of, tabulate-ext}
+use Rattle.bits.proofs.RangeLaws.{agree₂, under₂}
 
 -- each of the bits d is 0 or 1
 abbrev pub Binary : ℕ → (ℕ → ℕ) → Type 0
@@ -39,11 +41,8 @@ pack-lt (suc n) d h = omega (arith, pow-suc n, pack-lt n d (λ j l. h j (omega a
 pub pack-append : (n m : ℕ) (d : ℕ → ℕ) → pack (n + m) d ≡ pack n d * 2 ^ m + pack m (λ j. d (n + j))
 unfolding pack
 pack-append n zero d = rw add-zero (omega arith)
-pack-append n (suc m) d = rw add-suc-right (omega (arith, pack-append n m d, pow-suc m, spread))
+pack-append n (suc m) d = rw add-suc (omega (arith, pack-append n m d, pow-suc m, spread))
   where
-    add-suc-right : n + suc m ≡ suc (n + m)
-    add-suc-right = omega arith
-
     spread : pack n d * 2 ^ suc m ≡ pack n d * 2 ^ m * 2
     spread = ap (λ (p : ℕ). pack n d * p) (pow-suc m) ∙ sym (mul-assoc (pack n d) (2 ^ m) 2)
 
@@ -82,7 +81,34 @@ pack-bits (suc n) x =
         let z : suc n - 1 - j ≡ 1 + (n - 1 - j) = omega arith in
         rw (z, ← shr-shr x 1 (n - 1 - j))
 
+-- ---- exclusive-or
+
+differ-lt : (x y : ℕ) → x < 2 → y < 2 → differ x y < 2
+differ-lt = under₂ 2 2 2 differ tt
+
+differ-cancel : (x y : ℕ) → x < 2 → y < 2 → differ (differ x y) y ≡ x
+differ-cancel = agree₂ 2 2 (λ x y. differ (differ x y) y) (λ x y. x) tt
+
+pub xor-cancel : (a b : ℕ) → bitXor (bitXor a b) b ≡ a
+xor-cancel =
+    bin-ind (λ (n : ℕ). (b : ℕ) → bitXor (bitXor n b) b ≡ n) xor-self (λ n ih b.
+    let low : differ (n % 2) (b % 2) < 2 = differ-lt (n % 2) (b % 2) (omega arith) (omega arith) in
+    rw (xor-step n b, xor-step (_ * 2 + _) b, digits-div _ low, digits-mod _ low, ih (b / 2), differ-cancel (n % 2) (b % 2) (omega arith) (omega arith))
+    (div-add-mod' n 2))
+
+-- packing carries it from bits to numbers
+pub pack-xor : (n : ℕ) (d e : ℕ → ℕ) → Binary n d → Binary n e → pack n (λ j. bitXor (d j) (e j)) ≡ bitXor (pack n d) (pack n e)
+unfolding pack
+pack-xor zero d e hd he = refl
+pack-xor (suc n) d e hd he =
+    rw (pack-xor n d e (λ j l. hd j (omega arith)) (λ j l. he j (omega arith)))
+    (sym (xor-block 1 (pack n d) (pack n e) (d n) (e n) (hd n (omega arith)) (he n (omega arith))))
+
 -- ---- bytes
+
+pub length-bytes : (n : ℕ) (d : ℕ → ℕ) → length (bytesOf n d) ≡ n
+unfolding bytesOf
+length-bytes n d = length-tabulate n (byteOf d)
 
 -- a byte's bits, packed again, are the byte
 pub byte-bits : (bytes : List ℕ) (k : ℕ) → getD bytes k 0 < 256 → byteOf (bitOf bytes) k ≡ getD bytes k 0

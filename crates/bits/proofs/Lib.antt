@@ -1,3 +1,5 @@
+pub mod BoolLaws
+pub mod NumberLaws
 pub mod ListLaws
 pub mod BitLaws
 pub mod SumLaws

@@ -3,16 +3,18 @@ use mathlib.Core.Path.{_≡_, refl, sym, ap, _∙_}
 use mathlib.Core.Bool.{Bool, true, false, cond}
 use mathlib.Core.List.{List, [], _∷_, _++_, append-assoc, append-nil}
 use mathlib.Core.Logic.{_⊎_, inl, inr}
-use Prim.Native.Nat.{ℕ, zero, suc, _+_, _≤_, _<_}
-use native.Mathlib.Nat.{eq-or-lt-of-le, le-of-suc-le-suc, not-suc-le-zero, le-of-eq}
+use Prim.Native.Nat.{ℕ, zero, suc, _+_, _-_, _≤_, _<_}
+use native.Mathlib.Nat.{add-zero, add-suc, eq-or-lt-of-le, le-of-suc-le-suc, not-suc-le-zero, le-of-eq}
 use native.Mathlib.Decide.{ℕ-discrete}
 use native.Mathlib.Numerals.{add-one}
 use native.Mathlib.Omega.{arith}
 use lib.Dec.{ltb}
-use lib.ListN.{length, getD, drop, set, replicate, length-append, length-drop, length-set, length-replicate, getD-replicate, List·getD-append, drop-of-length-le}
-use lib.Seq.{ext-getD, getD-set-same, getD-set-other, drop-cons, set-at, getD-at, getD-append-add, getD-drop}
-use borrow.Author.Tests.{lt-ltb, le-ltb}
+use lib.ListN.{length, getD, take, drop, set, replicate, length-append, length-drop, length-set, length-replicate, getD-replicate, List·getD-append, drop-of-length-le}
+use lib.Seq.{ext-getD, getD-set-same, getD-set-other, drop-cons, set-at, getD-at, take-at, drop-at, drop-drop, getD-append-add, getD-drop}
+use borrow.Author.Tests.{lt-ltb, le-ltb, ltb-false}
+use borrow.Rule.Slice.PartAt.{part-to-end}
 use Rattle.bits.specs.Lists.{tabulate, written, lowest, firstAbove}
+use Rattle.bits.proofs.NumberLaws.{lt-cases}
 
 module _ {A : Type 0} where
   pub length-tabulate : (n : ℕ) (f : ℕ → A) → length (tabulate n f) ≡ n
@@ -40,6 +42,12 @@ module _ {A : Type 0} where
   tabulate-ext zero f g h = refl
   tabulate-ext (suc n) f g h = rw (tabulate-ext n f g (λ i l. h i (omega arith)), h n (omega arith))
 
+  -- the first n elements, and the m after them
+  pub tabulate-append : (n m : ℕ) (f : ℕ → A) → tabulate (n + m) f ≡ tabulate n f ++ tabulate m (λ k. f (n + k))
+  unfolding tabulate
+  tabulate-append n zero f = rw add-zero (sym (append-nil (tabulate n f)))
+  tabulate-append n (suc m) f = rw (add-suc, tabulate-append n m f) (append-assoc (tabulate n f) (tabulate m (λ k. f (n + k))) (f (n + m) ∷ []))
+
   pub tabulate-list : (d : A) (xs : List A) → tabulate (length xs) (λ k. getD xs k d) ≡ xs
   tabulate-list d xs = sym (tabulate-of (length xs) (λ k. getD xs k d) d xs refl (λ i h. refl))
 
@@ -64,11 +72,26 @@ module _ {A : Type 0} where
   unfolding written
   length-written n f out h = simp (length-append, length-tabulate, length-drop) (omega arith)
 
-  -- what stands at a place that is written, and at one that is not
+  -- what stands at a place that is written, and at one that is kept
   pub getD-written : (n : ℕ) (f : ℕ → A) (out : List A) (i : ℕ) (d : A) → i < n → getD (written n f out) i d ≡ f i
   unfolding written
   getD-written n f out i d h =
       List·getD-append (tabulate n f) (drop n out) d i (rw (length-tabulate n f) h) ∙ getD-tabulate n f i d h
+
+  pub getD-kept : (n : ℕ) (f : ℕ → A) (out : List A) (i : ℕ) (d : A) → n ≤ i → getD (written n f out) i d ≡ getD out i d
+  unfolding written
+  getD-kept n f out i d h =
+      let e : length (tabulate n f) + (i - n) ≡ i = omega (arith, length-tabulate n f) in
+      let z : n + (i - n) ≡ i = omega arith in
+      ap (λ (k : ℕ). getD (tabulate n f ++ drop n out) k d) (sym e) ∙ getD-append-add (tabulate n f) (drop n out) (i - n) d
+      ∙ getD-drop n out (i - n) d ∙ ap (λ (k : ℕ). getD out k d) z
+
+  -- a list that has f's elements below n and the old ones from n on
+  pub written-of : (n : ℕ) (f : ℕ → A) (d : A) (out now : List A) → n ≤ length out → length now ≡ length out
+      → ((i : ℕ) → i < n → getD now i d ≡ f i) → ((i : ℕ) → n ≤ i → getD now i d ≡ getD out i d) → now ≡ written n f out
+  written-of n f d out now h l low high =
+      ext-getD d now (written n f out) (l ∙ sym (length-written n f out h)) (λ i b.
+      lt-cases i n (λ c. low i c ∙ sym (getD-written n f out i d c)) (λ c. high i c ∙ sym (getD-kept n f out i d c)))
 
   -- a loop's turn: the value that belongs at n is stored there
   pub written-next : (n : ℕ) (v : A) (f : ℕ → A) (out now : List A) → now ≡ written n f out → n < length out → v ≡ f n → set now n v ≡ written (n + 1) f out
@@ -78,6 +101,30 @@ module _ {A : Type 0} where
       (ap (λ (l : List A). set (tabulate n f ++ l) n (f n)) (drop-cons out n v h)
       ∙ set-at (tabulate n f) (getD out n v) (drop (suc n) out) (f n) n (length-tabulate n f)
       ∙ sym (append-assoc (tabulate n f) (f n ∷ []) (drop (suc n) out)))
+
+  -- a loop's turn that stores two values, one after the other
+  pub written-two : (n : ℕ) (v w : A) (f : ℕ → A) (out now : List A) → now ≡ written n f out → n + 1 < length out → v ≡ f n → w ≡ f (n + 1)
+      → set (set now n v) (n + 1) w ≡ written (n + 2) f out
+  written-two n v w f out now e h g k =
+      let q : n + 1 + 1 ≡ n + 2 = omega arith in
+      written-next (n + 1) w f out (set now n v) (written-next n v f out now e (omega arith) g) h k ∙ ap (λ (m : ℕ). written m f out) q
+
+  -- a loop's turn that writes m elements through the part from n on, which is then put back
+  pub written-part : (n m : ℕ) (f g : ℕ → A) (out now part : List A) → now ≡ written n f out → ((j : ℕ) → j < m → g j ≡ f (n + j))
+      → part ≡ written m g (take (length now - n) (drop n now)) → take n now ++ (part ++ drop (length now - n) (drop n now)) ≡ written (n + m) f out
+  unfolding written
+  written-part n m f g out now part e same p =
+      rw (p, part-to-end now n, none, append-nil, e, front, back, drop-drop m n out, tabulate-ext m g (λ k. f (n + k)) same, tabulate-append n m f)
+      (sym (append-assoc (tabulate n f) (tabulate m (λ k. f (n + k))) (drop (n + m) out)))
+    where
+      none : drop (length now - n) (drop n now) ≡ []
+      none = drop-of-length-le (drop n now) (le-of-eq (length-drop n now))
+
+      front : take n (tabulate n f ++ drop n out) ≡ tabulate n f
+      front = take-at (tabulate n f) (drop n out) n (length-tabulate n f)
+
+      back : drop n (tabulate n f ++ drop n out) ≡ drop n out
+      back = drop-at (tabulate n f) (drop n out) n (length-tabulate n f)
 
   -- a loop's end
   pub written-all : (n m : ℕ) (f : ℕ → A) (out now : List A) → now ≡ written n f out → n ≡ m → now ≡ written m f out
@@ -102,6 +149,12 @@ module _ {A : Type 0} where
   pub written-list : (n : ℕ) (f : ℕ → A) (xs out : List A) → xs ≡ tabulate n f → xs ++ drop (length xs) out ≡ written n f out
   unfolding written
   written-list n f xs out e = rw (e, length-tabulate)
+
+  -- two elements stored at the start of a buffer
+  pub set-two : (a b : A) (xs : List A) → 2 ≤ length xs → set (set xs 0 a) 1 b ≡ a ∷ b ∷ drop 2 xs
+  set-two a b [] h = absurd (omega arith)
+  set-two a b (x ∷ []) h = absurd (omega arith)
+  set-two a b (x ∷ y ∷ xs) h = refl
 
 -- ---- the lowest number at which a test holds
 
@@ -162,3 +215,8 @@ first-here limit xs i h none a =
 pub first-none : (limit : ℕ) (xs : List ℕ) → ((k : ℕ) → k < length xs → getD xs k 0 ≤ limit) → length xs ≡ firstAbove limit xs
 unfolding firstAbove
 first-none limit xs none = sym (lowest-none (length xs) (λ k. ltb limit (getD xs k 0)) (λ k l. le-ltb limit (getD xs k 0) (none k l)))
+
+-- a search that found nothing: no element is above the limit
+pub none-above : (limit : ℕ) (xs : List ℕ) → length xs ≤ firstAbove limit xs → (k : ℕ) → k < length xs → getD xs k 0 ≤ limit
+unfolding firstAbove
+none-above limit xs h k l = ltb-false limit (getD xs k 0) (lowest-below (length xs) (λ k. ltb limit (getD xs k 0)) k (omega arith))

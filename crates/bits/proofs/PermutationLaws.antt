@@ -1,10 +1,15 @@
 -- Laws of permutations of the numbers below n. Assumes nothing.
 use mathlib.Core.Path.{_≡_, refl, sym, ap, _∙_}
-use Prim.Native.Nat.{ℕ, zero, suc, _<_}
-use native.Mathlib.Nat.{not-suc-le-zero, lt-suc-self}
+use Prim.Native.Nat.{ℕ, zero, suc, _+_, _-_, _*_, _/_, _%_, _<_}
+use native.Mathlib.Nat.{not-suc-le-zero, lt-suc-self, mod-lt, mod-eq-of-lt, mod-add-mod, add-mul-mod-self-right, div-add-mod', mul-assoc, mul-add, suc-mul}
 use native.Mathlib.Decide.{ℕ-discrete}
 use native.Mathlib.Omega.{arith}
+use lib.Dec.{eqb}
+use borrow.Author.Tests.{eq-eqb, ne-eqb}
+use Rattle.bits.specs.Lists.{lowest}
 use Rattle.bits.specs.Permutations.{Permutes, Once}
+use Rattle.bits.proofs.ListLaws.{lowest-here}
+use Rattle.bits.proofs.NumberLaws.{mod-mul-mod}
 
 -- f reaches y from below n
 abbrev pub Meets : ℕ → (ℕ → ℕ) → ℕ → Type 0
@@ -89,3 +94,62 @@ after {f = f} {g} P Q =
 -- a map that another one undoes
 pub undone : {n : ℕ} (f g : ℕ → ℕ) → ((x : ℕ) → x < n → f x < n) → ((x : ℕ) → x < n → g (f x) ≡ x) → Permutes n f
 undone f g small back = record { below = small; apart = λ x y hx hy e. sym (back x hx) ∙ ap g e ∙ back y hy }
+
+-- an order that is given in two ways
+pub permutes-ext : {n : ℕ} (f g : ℕ → ℕ) → ((x : ℕ) → x < n → g x ≡ f x) → Permutes n f → Permutes n g
+permutes-ext f g e P =
+    record {
+      below = λ x h. rw (e x h) (P .below x h);
+      apart = λ x y hx hy d. P .apart x y hx hy (sym (e x hx) ∙ d ∙ e y hy);
+    }
+
+-- ---- the inverse
+
+-- the place of k, found by search
+abbrev pub inverse : ℕ → (ℕ → ℕ) → ℕ → ℕ
+inverse n f k = lowest n (λ i. eqb (f i) k)
+
+module _ (n : ℕ) (f : ℕ → ℕ) (P : Permutes n f) where
+  pub inverse-after : (i : ℕ) → i < n → inverse n f (f i) ≡ i
+  inverse-after i h =
+      lowest-here n (λ j. eqb (f j) (f i)) i h
+      (λ j l. ne-eqb (f j) (f i) (λ e. let z : j ≡ i = P .apart j i (omega arith) h e in omega arith))
+      (eq-eqb (f i) (f i) refl)
+
+  pub after-inverse : (k : ℕ) → k < n → f (inverse n f k) ≡ k
+  after-inverse k h =
+      let (i, l, e) = onto n f P k h in
+      ap (λ (x : ℕ). f (inverse n f x)) (sym e) ∙ ap f (inverse-after i l) ∙ e
+
+  pub inverse-lt : (k : ℕ) → k < n → inverse n f k < n
+  inverse-lt k h =
+      let (i, l, e) = onto n f P k h in
+      let z : inverse n f k ≡ i = ap (inverse n f) (sym e) ∙ inverse-after i l in
+      rw z l
+
+-- ---- two kinds of permutations
+
+-- moved up by any number, modulo n
+pub moves : (n by : ℕ) → Permutes n (λ x. (x + by) % n)
+moves n by =
+    undone (λ x. (x + by) % n) (λ x. (x + (n - by % n)) % n)
+    (λ x h. mod-lt (x + by) (omega arith))
+    (λ x h. mod-add-mod (x + by) n (n - by % n) ∙ rw (sum x h, add-mul-mod-self-right) (mod-eq-of-lt h))
+  where
+    sum : (x : ℕ) → x < n → x + by + (n - by % n) ≡ x + suc (by / n) * n
+    sum x h =
+        let l : by % n < n = mod-lt by (omega arith) in
+        omega (arith, div-add-mod' by n, suc-mul (by / n) n)
+
+-- multiples of a number that has an inverse modulo n
+pub scales : (n a b rounds : ℕ) → a * b ≡ 1 + rounds * n → Permutes n (λ x. x * a % n)
+scales n a b rounds e = undone (λ x. x * a % n) (λ x. x * b % n) (λ x h. mod-lt (x * a) (omega arith)) back
+  where
+    back : (x : ℕ) → x < n → x * a % n * b % n ≡ x
+    back x h =
+        mod-mul-mod (x * a) b n
+        ∙ ap (λ (k : ℕ). k % n) (mul-assoc x a b ∙ ap (λ (k : ℕ). x * k) e ∙ mul-add x 1 (rounds * n) ∙ sides)
+        ∙ add-mul-mod-self-right x (x * rounds) n ∙ mod-eq-of-lt h
+      where
+        sides : x * 1 + x * (rounds * n) ≡ x + x * rounds * n
+        sides = omega (arith, mul-assoc x rounds n)

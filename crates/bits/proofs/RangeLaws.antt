@@ -1,23 +1,12 @@
 -- A computed test over a range gives the fact at each number of it. Assumes nothing.
 use mathlib.Core.Path.{_≡_, refl, subst, sym}
-use mathlib.Core.Bool.{Bool, true, false, _&&_}
+use mathlib.Core.Bool.{Bool, true, false, Bool·beq}
 use mathlib.Core.Logic.{⊎-elim}
 use Prim.Native.Nat.{ℕ, zero, suc, _<_}
 use native.Mathlib.Nat.{eq-or-lt-of-le, le-of-suc-le-suc, not-suc-le-zero}
 use lib.Dec.{T, eqb, eqb→eq, ltb, ltb→lt}
 use Rattle.bits.specs.Ranges.{allBelow}
-
-pub and-left : (a b : Bool) → T (a && b) → T a
-and-left true b t = tt
-and-left false b t = t
-
-pub and-right : (a b : Bool) → T (a && b) → T b
-and-right true b t = t
-and-right false b t = absurd t
-
-pub both : (a b : Bool) → (a && b) ≡ true → (a ≡ true) × (b ≡ true)
-both true b e = (refl, e)
-both false b e = absurd (subst T (sym e) tt)
+use Rattle.bits.proofs.BoolLaws.{and-left, and-right}
 
 -- the law of the computed test
 pub at-each : (n : ℕ) (f : ℕ → Bool) → T (allBelow n f) → (k : ℕ) → k < n → T (f k)
@@ -45,3 +34,13 @@ under n b f t k h = ltb→lt (f k) b (at-each n (λ k. ltb (f k) b) t k h)
 
 pub under₂ : (m n b : ℕ) (f : ℕ → ℕ → ℕ) → T (allBelow m (λ j. allBelow n (λ k. ltb (f j k) b))) → (j k : ℕ) → j < m → k < n → f j k < b
 under₂ m n b f t j k hj hk = under n b (f j) (at-each m (λ j. allBelow n (λ k. ltb (f j k) b)) t j hj) k hk
+
+-- two tests that agree below a bound
+pub agree-tests : (n : ℕ) (f g : ℕ → Bool) → T (allBelow n (λ k. Bool·beq (f k) (g k))) → (k : ℕ) → k < n → f k ≡ g k
+agree-tests n f g t k h = same (f k) (g k) (at-each n (λ k. Bool·beq (f k) (g k)) t k h)
+  where
+    same : (a b : Bool) → T (Bool·beq a b) → a ≡ b
+    same true true u = refl
+    same false false u = refl
+    same true false u = absurd u
+    same false true u = absurd u

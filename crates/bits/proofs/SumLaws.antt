@@ -1,12 +1,17 @@
 -- Laws of sums and counts over the numbers below n. Assumes nothing.
-use mathlib.Core.Path.{_≡_, refl, ap}
-use mathlib.Core.Bool.{Bool, true, false, cond}
-use Prim.Native.Nat.{ℕ, zero, suc, _+_, _*_, _≤_, _<_}
-use native.Mathlib.Nat.{add-zero, add-suc, zero-mul, suc-mul, eq-or-lt-of-le, le-of-suc-le-suc, not-suc-le-zero}
+use mathlib.Core.Path.{_≡_, refl, sym, ap, _∙_}
+use mathlib.Core.Bool.{Bool, true, false, cond, _&&_}
 use mathlib.Core.Logic.{_⊎_, inl, inr}
+use Prim.Native.Nat.{ℕ, zero, suc, _+_, _-_, _*_, _≤_, _<_}
+use native.Mathlib.Nat.{add-zero, add-suc, zero-mul, suc-mul, eq-or-lt-of-le, le-of-suc-le-suc, not-suc-le-zero}
+use native.Mathlib.Decide.{decLt}
 use native.Mathlib.Numerals.{add-one}
 use native.Mathlib.Omega.{arith}
+use lib.Dec.{T, eqb}
+use borrow.Author.Tests.{eq-eqb, ne-eqb}
+use Rattle.bits.specs.Lists.{lowest}
 use Rattle.bits.specs.Sums.{sum, count}
+use Rattle.bits.proofs.ListLaws.{lowest-here}
 
 -- one turn of a loop
 pub sum-next : (n : ℕ) (f : ℕ → ℕ) → sum (n + 1) f ≡ sum n f + f n
@@ -17,11 +22,6 @@ pub sum-ext : (n : ℕ) (f g : ℕ → ℕ) → ((k : ℕ) → k < n → f k ≡
 unfolding sum
 sum-ext zero f g h = refl
 sum-ext (suc n) f g h = omega (arith, sum-ext n f g (λ k l. h k (omega arith)), h n (omega arith))
-
-pub sum-le : (n : ℕ) (f g : ℕ → ℕ) → ((k : ℕ) → k < n → f k ≤ g k) → sum n f ≤ sum n g
-unfolding sum
-sum-le zero f g h = omega arith
-sum-le (suc n) f g h = omega (arith, sum-le n f g (λ k l. h k (omega arith)), h n (omega arith))
 
 pub sum-add : (n : ℕ) (f g : ℕ → ℕ) → sum n (λ k. f k + g k) ≡ sum n f + sum n g
 unfolding sum
@@ -53,11 +53,24 @@ sum-pairs (suc n) f =
     let twice : 2 * suc n ≡ suc (suc (2 * n)) = omega arith in
     rw (twice, add-one (2 * n)) (omega (arith, sum-pairs n f))
 
+-- twice one sum and another, against the same of two others, term by term
+pub sum-within : (n : ℕ) (f g p q : ℕ → ℕ) → ((k : ℕ) → k < n → 2 * f k + g k ≤ 2 * p k + q k) → 2 * sum n f + sum n g ≤ 2 * sum n p + sum n q
+unfolding sum
+sum-within zero f g p q h = omega arith
+sum-within (suc n) f g p q h = omega (arith, sum-within n f g p q (λ k l. h k (omega arith)), h n (omega arith))
+
 -- ---- counts
 
 pub count-next : (n : ℕ) (t : ℕ → Bool) → count (n + 1) t ≡ count n t + cond (t n) 1 0
 unfolding count
 count-next n t = sum-next n (λ k. cond (t k) 1 0)
+
+-- one more, where the number passes and where it does not
+pub count-true : (n : ℕ) (t : ℕ → Bool) → t n ≡ true → count (n + 1) t ≡ count n t + 1
+count-true n t e = count-next n t ∙ ap (λ (b : Bool). count n t + cond b 1 0) e
+
+pub count-false : (n : ℕ) (t : ℕ → Bool) → t n ≡ false → count (n + 1) t ≡ count n t
+count-false n t e = let q : count (n + 1) t ≡ count n t + 0 = count-next n t ∙ ap (λ (b : Bool). count n t + cond b 1 0) e in omega arith
 
 pub one-le : (b : Bool) → cond b 1 0 ≤ 1
 one-le true = omega arith
@@ -71,6 +84,31 @@ count-le (suc n) t = omega (arith, one-le (t n), count-le n t)
 pub count-ext : (n : ℕ) (t u : ℕ → Bool) → ((k : ℕ) → k < n → t k ≡ u k) → count n t ≡ count n u
 unfolding count
 count-ext n t u h = sum-ext n (λ k. cond (t k) 1 0) (λ k. cond (u k) 1 0) (λ k l. ap (λ (b : Bool). cond b 1 0) (h k l))
+
+-- the first n, and the m after them
+pub count-append : (n m : ℕ) (t : ℕ → Bool) → count (n + m) t ≡ count n t + count m (λ k. t (n + k))
+unfolding count
+count-append n m t = sum-append n m (λ k. cond (t k) 1 0)
+
+-- what passes s passes exactly one of three tests
+pub count-three : (n : ℕ) (t u w s : ℕ → Bool) → ((k : ℕ) → k < n → cond (t k) 1 0 + cond (u k) 1 0 + cond (w k) 1 0 ≡ cond (s k) 1 0)
+    → count n t + count n u + count n w ≡ count n s
+unfolding count
+count-three n t u w s h =
+    omega (
+      arith,
+      sum-add n (λ k. cond (t k) 1 0) (λ k. cond (u k) 1 0),
+      sum-add n (λ k. cond (t k) 1 0 + cond (u k) 1 0) (λ k. cond (w k) 1 0),
+      sum-ext n (λ k. cond (t k) 1 0 + cond (u k) 1 0 + cond (w k) 1 0) (λ k. cond (s k) 1 0) h,
+    )
+
+-- a number that passes counts below every higher bound
+pub count-lt : (m n : ℕ) (t : ℕ → Bool) → m < n → t m ≡ true → count m t < count n t
+count-lt m n t h e =
+    let whole : m + 1 + (n - (m + 1)) ≡ n = omega arith in
+    let parts : count n t ≡ count (m + 1) t + count (n - (m + 1)) (λ k. t (m + 1 + k)) =
+    ap (λ (k : ℕ). count k t) (sym whole) ∙ count-append (m + 1) (n - (m + 1)) t in
+    omega (arith, count-true m t e)
 
 -- none passes, and some number that passes makes the count positive
 pub count-none : (n : ℕ) (t : ℕ → Bool) → ((k : ℕ) → k < n → t k ≡ false) → count n t ≡ 0
@@ -89,3 +127,42 @@ count-zero (suc n) t e k h = go (t n) refl (eq-or-lt-of-le (le-of-suc-le-suc h))
       where
         full : _≡_ {A = ℕ} (cond (t n) 1 0) 1 → ⊥
         full z = omega (arith, z, e)
+
+-- a test that is false wherever another holds
+pub count-and-none : (n : ℕ) (t u : ℕ → Bool) → ((k : ℕ) → k < n → T (t k) → u k ≡ false) → count n (λ k. t k && u k) ≡ 0
+count-and-none n t u h = count-none n _ (λ k l. at (t k) (u k) (h k l))
+  where
+    at : (a b : Bool) → (T a → b ≡ false) → (a && b) ≡ false
+    at true b e = e tt
+    at false b e = refl
+
+-- ---- the numbers that pass, in order
+
+-- a number that passes is the one that passes after as many as pass below it
+pub lowest-nth : (n : ℕ) (t : ℕ → Bool) (i : ℕ) → i < n → t i ≡ true → lowest n (λ k. t k && eqb (count k t) (count i t)) ≡ i
+lowest-nth n t i h e = lowest-here n (λ k. t k && eqb (count k t) (count i t)) i h before here
+  where
+    here : (t i && eqb (count i t) (count i t)) ≡ true
+    here = rw (e, eq-eqb (count i t) (count i t) refl)
+
+    before : (k : ℕ) → k < i → (t k && eqb (count k t) (count i t)) ≡ false
+    before k l = go (t k) refl
+      where
+        go : (b : Bool) → t k ≡ b → (b && eqb (count k t) (count i t)) ≡ false
+        go false d = refl
+        go true d = ne-eqb (count k t) (count i t) (λ q. let s : count k t < count i t = count-lt k i t l d in omega arith)
+
+-- there is one for every count below the whole
+pub nth : (n : ℕ) (t : ℕ → Bool) (j : ℕ) → j < count n t → (i : ℕ) × (i < n) × (t i ≡ true) × (count i t ≡ j)
+unfolding count sum
+nth zero t j h = absurd (not-suc-le-zero h)
+nth (suc n) t j h = go (decLt j (count n t)) (t n) refl (nth n t j)
+  where
+    go : Dec (j < count n t) → (b : Bool) → t n ≡ b → (j < count n t → (i : ℕ) × (i < n) × (t i ≡ true) × (count i t ≡ j))
+        → (i : ℕ) × (i < suc n) × (t i ≡ true) × (count i t ≡ j)
+    go (yes l) b e ih = let (i, k, p, q) = ih l in (i, omega arith, p, q)
+    go (no l) true e ih = (n, omega arith, e, omega (arith, h, ap {B = ℕ} (λ (b : Bool). cond b 1 0) e))
+    go (no l) false e ih = absurd (none (ap (λ (b : Bool). cond b 1 0) e))
+      where
+        none : _≡_ {A = ℕ} (cond (t n) 1 0) 0 → ⊥
+        none z = omega (arith, h, z)

@@ -2,7 +2,7 @@
 -- Assumes nothing.
 use mathlib.Core.List.{List}
 use Prim.Native.Nat.{ℕ, zero, suc, _+_, _-_, _*_, _/_, _%_, _^_}
-use lib.ListN.{length, getD}
+use lib.ListN.{getD}
 use Rattle.bits.specs.Lists.{tabulate}
 
 -- bit k of a number, counted from the least significant
@@ -26,9 +26,6 @@ byteOf d k = pack 8 (λ j. d (8 * k + j))
 unfoldable pub field : List ℕ → ℕ → ℕ → ℕ
 field bytes at width = pack width (λ j. bitOf bytes (at + j))
 
--- all bits of some bytes, and the n bytes that the bits d make
-unfoldable pub bitsOf : List ℕ → List ℕ
-bitsOf bytes = tabulate (8 * length bytes) (bitOf bytes)
-
+-- the n bytes that the bits d make
 unfoldable pub bytesOf : ℕ → (ℕ → ℕ) → List ℕ
 bytesOf n d = tabulate n (byteOf d)

@@ -12,7 +12,7 @@ use Rattle.bits.specs.Bits.{field}
 use Rattle.bits.proofs.BitLaws.{field-append, field-byte, field-in-byte, field-lt}
 use Rattle.card.specs.declared.Card.{Card}
 use borrow.Author.Tests.{eqb-true, leb-true}
-use Rattle.bits.proofs.RangeLaws.{both}
+use Rattle.bits.proofs.BoolLaws.{both}
 use Rattle.card.specs.Card.{cardOf}
 use Rattle.card.specs.Entries.{definedMode}
 

@@ -14,7 +14,7 @@ use lib.Seq.{take-at}
 use borrow.Author.Tests.{eqb-true, ltb-true, lt-ltb, le-ltb, not-false}
 use Rattle.bits.specs.Bits.{bitAt, bitOf, pack, field, bytesOf}
 use Rattle.bits.proofs.BitLaws.{pack-ext, pack-shifted, bit-pack, bit-binary, bits-bytes, bytes-bits, same-bits, field-append, field-lt}
-use Rattle.bits.proofs.RangeLaws.{both}
+use Rattle.bits.proofs.BoolLaws.{both}
 use Rattle.refusal.specs.Report.{done}
 use Rattle.refusal.proofs.OutcomeLaws.{done-same, reported-done, outcome-done, outcome-good}
 use Rattle.card.specs.declared.Card.{Card}

@@ -11,7 +11,7 @@ use lib.Pow.{pow-pos, pow-add, shr-shr, high}
 use Rattle.bits.specs.Bits.{bitAt, pack, byteOf, bytesOf}
 use Rattle.bits.specs.Lists.{tabulate}
 use borrow.Author.Tests.{ltb-true}
-use Rattle.bits.proofs.RangeLaws.{both}
+use Rattle.bits.proofs.BoolLaws.{both}
 use Rattle.bits.proofs.ListLaws.{length-tabulate}
 use Rattle.card.specs.Entries.{versioned, defined}
 use Rattle.card.proofs.CardLaws.{versioned-is, defined-small}

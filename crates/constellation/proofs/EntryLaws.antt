@@ -7,6 +7,7 @@ use borrow.Author.Tests.{lt-ltb, le-ltb, eq-eqb, ne-eqb}
 use lib.Ieee.{Float}
 use lib.ListN.{length, getD, drop, set}
 use Rattle.bits.specs.Lists.{firstAbove}
+use Rattle.bits.proofs.ListLaws.{set-two}
 use Rattle.refusal.specs.declared.Refusal.{Refusal}
 use Rattle.refusal.specs.declared.Refusal.the-variants.{CardLength, Version, Mode, Pad, Length, Room, Item, Majority, Parity}
 use Rattle.refusal.specs.Report.{done, refusal}
@@ -20,7 +21,6 @@ use Rattle.constellation.specs.declared.Sliced.the-variants.{Refused}
 use Rattle.constellation.specs.Mapping.{pointOf}
 use Rattle.constellation.specs.Slicing.{itemsOf, sliced, given, slicing}
 use Rattle.constellation.specs.Entries.{withPoint, mapOutcome, sliceOutcome}
-use Rattle.constellation.proofs.Extra.{set-two}
 
 -- a refusal that keeps the lent memory, and a success
 abbrev kept : {B : Type 0} → Refusal → B → Outcome ℕ B

@@ -1,5 +1,4 @@
 -- What the proofs of `constellation` share, and its theorems. Assumes nothing.
-pub mod Extra
 pub mod DecisionLaws
 pub mod MappingLaws
 pub mod FactorLaws

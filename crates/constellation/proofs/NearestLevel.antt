@@ -10,10 +10,10 @@ use lib.IntN.{ℤ}
 use lib.Ieee.{Float, nan, inf, fin, up, down, add, sub, mul, lt, le}
 use lib.Ieee.Fits.{up-pos, down-pos}
 use lib.Ieee.Positive.{first-pos}
+use Rattle.bits.proofs.BoolLaws.{test-cases}
 use Rattle.constellation.specs.Factors.{factorOf}
 use Rattle.constellation.specs.Slicing.{level, lost, erasureWidth, lower, upper, read2, reading2, reading4}
 use Rattle.constellation.specs.Distances.{scaled, apart, distance, negative2, negative4, size4}
-use Rattle.constellation.proofs.Extra.{split}
 use Rattle.constellation.proofs.DecisionLaws.{Size, width-size, le-not-lt}
 
 -- ---- a size X and the unit Y
@@ -107,9 +107,9 @@ moved P {i} {k} e h = let w : i ≡ k = cc in subst P w h
 
 found4 : (s : Bool) (n : ℕ) (e : ℤ) (k : ℕ) → reading4 (fin s n e) ≡ level k → Nearest4 s (size n e) (unit n e) k
 found4 s n e k r =
-    split (le (fin false n e) (erasureWidth 2)) (λ t. no (simp t at r)) λ a.
-    split (lt (fin false n e) lower) (λ t. near s (size-pos n e a) (within n e t) (simp (a, t) at r)) λ b.
-    split (le (fin false n e) upper) (λ t. no (simp (a, b, t) at r)) λ t. wide s (beyond n e t) (simp (a, b, t) at r)
+    test-cases (le (fin false n e) (erasureWidth 2)) (λ t. no (simp t at r)) λ a.
+    test-cases (lt (fin false n e) lower) (λ t. near s (size-pos n e a) (within n e t) (simp (a, t) at r)) λ b.
+    test-cases (le (fin false n e) upper) (λ t. no (simp (a, b, t) at r)) λ t. wide s (beyond n e t) (simp (a, b, t) at r)
   where
     near : (s : Bool) → 0 < size n e → size n e < 2 * unit n e → cond s (level 1) (level 2) ≡ level k → Nearest4 s (size n e) (unit n e) k
     near true h l e′ = moved (Nearest4 true (size n e) (unit n e)) e′ (inner⁻ _ _ (unit-pos n e) h l)
@@ -163,7 +163,7 @@ scaled-pos n a b h = mul-pos (mul-pos h (up-pos a)) (down-pos b)
 found2 : (w : Float) (s : Bool) (n : ℕ) (e : ℤ) (k c : ℕ) (d : ℤ) → Size w → 0 < c → read2 w (fin s n e) ≡ level k
     → Nearest2 s (n * up e * down d) (c * up d * down e) k
 found2 w s n e k c d p q r =
-    split (le (fin false n e) w) (λ t. no (simp t at r)) λ t.
+    test-cases (le (fin false n e) w) (λ t. no (simp t at r)) λ t.
     signed s (scaled-pos n e d (above-pos w n e p t)) (scaled-pos c d e q) (simp t at r)
   where
     signed : (s : Bool) {X Y : ℕ} → 0 < X → 0 < Y → cond s (level 0) (level 1) ≡ level k → Nearest2 s X Y k

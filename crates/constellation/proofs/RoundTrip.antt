@@ -10,8 +10,9 @@ use lib.Ieee.{add, sub, mul, ofInt, lt, le}
 use lib.ListN.{length, getD, take}
 use lib.Seq.{length-take-le, getD-take}
 use Rattle.bits.specs.Lists.{tabulate, firstAbove}
+use Rattle.bits.proofs.BoolLaws.{test-cases}
 use Rattle.bits.proofs.BitLaws.{Binary}
-use Rattle.bits.proofs.ListLaws.{getD-tabulate, tabulate-ext, tabulate-list, first-none}
+use Rattle.bits.proofs.ListLaws.{getD-tabulate, tabulate-ext, tabulate-list, first-none, none-above}
 use Rattle.bits.proofs.RangeLaws.{at-each, agree₂}
 use Rattle.refusal.specs.Report.{done, refused}
 use Rattle.card.specs.Modes.{carrierBits}
@@ -19,7 +20,6 @@ use Rattle.constellation.specs.declared.Point.{Point}
 use Rattle.constellation.specs.Mapping.{level2Of, level4Of, coordinate, pointOf, mapping}
 use Rattle.constellation.specs.Slicing.{axis2Of, axis4Of, itemsOf, slicing}
 use Rattle.constellation.specs.Carriers.{heard, carrierPoint, throughPoints}
-use Rattle.constellation.proofs.Extra.{split, none-above}
 use Rattle.constellation.proofs.MappingLaws.{carrier-bits-le, point-reported}
 
 -- ---- an axis
@@ -61,8 +61,8 @@ no e = let z : _≡_ {A = ℕ} 0 1 = cc in absurd (omega arith)
 pub sliced-back : (m : ℕ) (bits : List ℕ) (p : Point) → 4 ≤ length bits → mapping m bits ≡ done p
     → slicing m (heard p) ≡ done (take (carrierBits m) bits)
 sliced-back m bits p h e =
-    split (ltb 2 m) (λ t. no (simp t at e)) λ t.
-    split (ltb (firstAbove 1 used) (length used)) (λ u. no (simp (t, u) at e)) λ u.
+    test-cases (ltb 2 m) (λ t. no (simp t at e)) λ t.
+    test-cases (ltb (firstAbove 1 used) (length used)) (λ u. no (simp (t, u) at e)) λ u.
     back (ltb-false 2 m t) (ltb-false (firstAbove 1 used) (length used) u) (simp (t, u) at e)
   where
     used : List ℕ

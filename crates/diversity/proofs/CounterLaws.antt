@@ -13,7 +13,7 @@ use Rattle.bits.proofs.SumLaws.{count-next, count-le}
 use Rattle.diversity.specs.Votes.{votes, majority, decided}
 use Rattle.diversity.specs.Lanes.{rides}
 use Rattle.diversity.specs.Counters.{counted, Room}
-use Rattle.diversity.proofs.Extra.{take-rest}
+use borrow.Rule.Slice.PartAt.{part-to-end}
 use Rattle.diversity.proofs.VoteLaws.{votes-append}
 
 votes-le : (N : ℕ) (on : ℕ → ℕ → Bool) (items : List ℕ) (b v : ℕ) → votes N on items b v ≤ N
@@ -55,7 +55,7 @@ module _ (n : ℕ) (on : ℕ → ℕ → Bool) (items counters now : List ℕ) (
   pub counted-append : (m : ℕ) (part : ℕ → ℕ → Bool) (later : List ℕ) → ((j : ℕ) → j < m → (b : ℕ) → part j b ≡ on (n + j) b) → Room (n + m) counters
       → later ≡ counted m part (take (length items - n) (drop n items)) now → later ≡ counted (n + m) on items counters
   unfolding counted
-  counted-append m part later same room e = e ∙ rw (take-rest n items) (tabulate-ext 256 _ _ each)
+  counted-append m part later same room e = e ∙ rw (part-to-end items n) (tabulate-ext 256 _ _ each)
     where
       each : (b : ℕ) → b < 256
           → getD now b 0 + votes m part (drop n items) b 1 - votes m part (drop n items) b 0

@@ -9,7 +9,7 @@ use lib.Arith.{digits-div, digits-mod}
 use lib.Dec.{T, eqb, eqb→eq}
 use lib.ListN.{getD, length, set}
 use Rattle.bits.specs.Lists.{tabulate, written}
-use Rattle.bits.proofs.ListLaws.{getD-tabulate, tabulate-ext, written-next, written-all}
+use Rattle.bits.proofs.ListLaws.{getD-tabulate, tabulate-ext, written-two, written-all}
 use Rattle.diversity.specs.Votes.{copies, decided}
 use Rattle.diversity.specs.Damage.{Damage, altered, lost}
 use Rattle.diversity.specs.Lanes.{laneBit, rides}
@@ -74,6 +74,10 @@ lane-Q C os s c h =
     let odd : (2 * c + 1) % 2 ≡ 1 = omega arith in
     rw (at, lane-at C os s (2 * c + 1) (omega arith), half, odd)
 
+-- the items of s symbols, where s is all of them
+pub rows-all : (s C symbols n : ℕ) → n ≡ 2 * (s * C) → s ≡ symbols → n ≡ 2 * (symbols * C)
+rows-all s C symbols n e h = rw (← h) e
+
 -- a symbol's items, from n on, carry what they would in a frame of that symbol alone
 pub lane-symbol : (C : ℕ) (os : List ℕ) (s n j : ℕ) → n ≡ 2 * (s * C) → j < 2 * C → laneBit C (getD os s 0 ∷ []) j ≡ laneBit C os (n + j)
 lane-symbol C os s n j e h =
@@ -100,13 +104,11 @@ pub place-written : (C o c i q : ℕ) (coded out now : List ℕ) → c < C → 2
     → now ≡ written (2 * c) (λ n. getD coded (laneBit C (o ∷ []) n) 0) out
     → i ≡ (c + o) % 256 → q ≡ (c + o + 128) % 256
     → set (set now (2 * c) (getD coded i 0)) (2 * c + 1) (getD coded q 0) ≡ written (2 * (c + 1)) (λ n. getD coded (laneBit C (o ∷ []) n) 0) out
-place-written C o c i q coded out now h l e f g = written-all _ _ _ _ _ (written-next (2 * c + 1) _ _ out _ first l second) (omega arith)
-  where
-    first : set now (2 * c) (getD coded i 0) ≡ written (2 * c + 1) (λ n. getD coded (laneBit C (o ∷ []) n) 0) out
-    first = written-next (2 * c) _ _ out now e (omega arith) (ap (λ (b : ℕ). getD coded b 0) (f ∙ sym (symbol-I C o c h)))
-
-    second : getD coded q 0 ≡ getD coded (laneBit C (o ∷ []) (2 * c + 1)) 0
-    second = ap (λ (b : ℕ). getD coded b 0) (g ∙ sym (symbol-Q C o c h))
+place-written C o c i q coded out now h l e f g =
+    written-all _ _ _ _ _
+    (written-two (2 * c) _ _ _ out now e l
+    (ap (λ (b : ℕ). getD coded b 0) (f ∙ sym (symbol-I C o c h))) (ap (λ (b : ℕ). getD coded b 0) (g ∙ sym (symbol-Q C o c h))))
+    (omega arith)
 
 -- the two lanes of a carrier carry different bits
 pub lanes-differ : (C : ℕ) (os : List ℕ) (k : ℕ) → laneBit C os (2 * k) ≡ laneBit C os (2 * k + 1) → ⊥

@@ -1,4 +1,3 @@
-pub mod Extra
 pub mod VoteLaws
 pub mod DamageLaws
 pub mod LaneLaws

@@ -9,12 +9,11 @@ use lib.ListN.{length, getD}
 use Rattle.bits.specs.Lists.{tabulate}
 use Rattle.bits.specs.Permutations.{Permutes, Once}
 use Rattle.bits.proofs.ListLaws.{getD-tabulate, tabulate-of}
-use Rattle.bits.proofs.PermutationLaws.{once}
+use Rattle.bits.proofs.PermutationLaws.{once, inverse-after, after-inverse, inverse-lt}
 use Rattle.bits.proofs.RangeLaws.{agree, under₂}
 use Rattle.card.specs.Modes.{blockBytes}
 use Rattle.interleaver.specs.Layouts.{Defined, groups, layoutOf}
 use Rattle.interleaver.specs.Source.{codedBits, source, codedAt}
-use Rattle.interleaver.proofs.Extra.{inverse-after, after-inverse, inverse-lt}
 use Rattle.interleaver.proofs.LayoutLaws.{sound-of}
 use Rattle.interleaver.proofs.SourceLaws.{source-permutes}
 

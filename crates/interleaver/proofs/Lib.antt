@@ -1,4 +1,3 @@
-pub mod Extra
 pub mod PassLaws
 pub mod SourceLaws
 pub mod LayoutLaws

@@ -13,10 +13,10 @@ use lib.ListN.{getD}
 use borrow.Author.Tests.{lt-ltb, le-ltb, le-leb, lt-leb}
 use Rattle.bits.specs.Lists.{tabulate}
 use Rattle.bits.specs.Permutations.{Permutes, Once}
-use Rattle.bits.proofs.ListLaws.{getD-tabulate, tabulate-ext, lowest-here, lowest-none}
-use Rattle.bits.proofs.PermutationLaws.{once, after, undone}
+use Rattle.bits.proofs.NumberLaws.{lt-cases}
+use Rattle.bits.proofs.ListLaws.{getD-tabulate, tabulate-ext, tabulate-append, lowest-here, lowest-none}
+use Rattle.bits.proofs.PermutationLaws.{once, after, undone, permutes-ext, moves, scales}
 use Rattle.interleaver.specs.Rows.{passLength, pass, passes, passRow, movedRow, continuousRow}
-use Rattle.interleaver.proofs.Extra.{split, tabulate-append, permutes-ext, moves, scales}
 
 -- where pass j starts: each pass before it takes R / step rows, and each of the first R % step one more
 abbrev pub passStart : ℕ → ℕ → ℕ → ℕ
@@ -63,14 +63,14 @@ module _ (R s : ℕ) (pos : zero < s) where
   length-is : (j c : ℕ) → c ≤ R → ((k : ℕ) → k < c → j + k * s < R) → R ≤ j + c * s → passLength R s j ≡ c
   unfolding passLength
   length-is j c h below past =
-      split c R
+      lt-cases c R
       (λ l. lowest-here R (λ k. leb R (j + k * s)) c l (λ k b. lt-leb R (j + k * s) (below k b)) (le-leb R (j + c * s) past))
       (λ l.
       let e : R ≡ c = omega arith in
       lowest-none R (λ k. leb R (j + k * s)) (λ k b. lt-leb R (j + k * s) (below k (omega arith))) ∙ e)
 
   pass-is : (j : ℕ) → j < s → Passed R s j
-  pass-is j hj = split j (R % s) long short
+  pass-is j hj = lt-cases j (R % s) long short
     where
       long : j < R % s → Passed R s j
       long l = (
@@ -124,7 +124,7 @@ module _ (R s : ℕ) (pos : zero < s) where
   -- past the longer passes there are rows only where the others have some
   pub short-pos : (p : ℕ) → p < R → R % s * (R / s + 1) ≤ p → zero < R / s
   short-pos p h l =
-      split zero (R / s) (λ z. z) (λ z.
+      lt-cases zero (R / s) (λ z. z) (λ z.
       absurd
       (let e : R / s ≡ zero = omega arith in
       let w = rw e at whole in
@@ -133,7 +133,7 @@ module _ (R s : ℕ) (pos : zero < s) where
 
   -- the pass of a place, and how far in it stands
   find : (p : ℕ) → p < R → Found R s p
-  find p h = split p (R % s * (R / s + 1)) long short
+  find p h = lt-cases p (R % s * (R / s + 1)) long short
     where
       long : p < R % s * (R / s + 1) → Found R s p
       long l =

@@ -8,11 +8,11 @@ use lib.Dec.{ltb}
 use lib.Arith.{digits-div, digits-mod, digits-lt}
 use borrow.Author.Tests.{lt-ltb, le-ltb, eqb-true, eqb-false}
 use Rattle.bits.specs.Permutations.{Permutes}
+use Rattle.bits.proofs.NumberLaws.{lt-cases}
 use Rattle.interleaver.specs.declared.Layout.{Layout}
 use Rattle.interleaver.specs.Rows.{passRow, movedRow, continuousRow}
 use Rattle.interleaver.specs.Layouts.{Sound}
 use Rattle.interleaver.specs.Source.{dataRow, parityRow, groupOf, placeIn, isParity, dataPlace, nibbleBit, column, sourceOf, codedOf}
-use Rattle.interleaver.proofs.Extra.{split}
 use Rattle.interleaver.proofs.PassLaws.{pass-permutes, moved-permutes, continuous-permutes}
 
 -- the places of a group with the lead's left out, and back
@@ -24,7 +24,7 @@ unskip lead x = cond (ltb x lead) x (suc x)
 
 skipped : (group lead e : ℕ) → lead ≤ group → e < group + 1 → (e ≡ lead → ⊥) → (skip lead e < group) × (unskip lead (skip lead e) ≡ e)
 skipped group lead e hl he ne =
-    split lead e
+    lt-cases lead e
     (λ h.
     let s : skip lead e ≡ e - 1 = rw (lt-ltb lead e h) in
     let u : unskip lead (e - 1) ≡ suc (e - 1) = rw (le-ltb (e - 1) lead (omega arith)) in

@@ -3,16 +3,17 @@ use mathlib.Core.Path.{_≡_, refl, sym, ap, _∙_}
 use mathlib.Core.List.{List}
 use mathlib.Core.Logic.{_⊎_, inl, inr}
 use Prim.Native.Nat.{ℕ, zero, suc, _+_, _*_, _<_, _≤_}
-use native.Mathlib.Nat.{add-zero, add-suc, add-mul, eq-or-lt-of-le, le-of-suc-le-suc, not-suc-le-zero}
+use native.Mathlib.Nat.{add-zero, add-suc, eq-or-lt-of-le, le-of-suc-le-suc, not-suc-le-zero}
 use native.Mathlib.Numerals.{add-one}
 use native.Mathlib.Omega.{arith}
 use lib.ListN.{length, getD, set, length-set}
 use lib.Seq.{getD-set-same, getD-set-other}
 use Rattle.bits.specs.Lists.{written}
 use Rattle.bits.specs.Permutations.{Permutes}
-use Rattle.bits.proofs.ListLaws.{written-ext}
+use Rattle.bits.proofs.NumberLaws.{row-next}
+use Rattle.bits.proofs.ListLaws.{written-of, written-ext}
+use Rattle.bits.proofs.PermutationLaws.{inverse, inverse-after, after-inverse, inverse-lt}
 use Rattle.interleaver.specs.Stores.{stored}
-use Rattle.interleaver.proofs.Extra.{written-of, inverse, inverse-after, after-inverse, inverse-lt}
 
 pub stored-none : (w v : ℕ → ℕ) (out : List ℕ) → out ≡ stored 0 w v out
 unfolding stored
@@ -39,11 +40,7 @@ stored-append a (suc b) w v out = rw (add-suc, stored-append a b w v out)
 pub stored-run : (m n : ℕ) (w v : ℕ → ℕ) (out now next : List ℕ) → now ≡ stored (n * m) w v out
     → next ≡ stored m (λ k. w (n * m + k)) (λ k. v (n * m + k)) now → next ≡ stored ((n + 1) * m) w v out
 stored-run m n w v out now next e d =
-    let z : (n + 1) * m ≡ n * m + m = add-one-mul n m in
-    d ∙ rw (e, z) (sym (stored-append (n * m) m w v out))
-  where
-    add-one-mul : (n m : ℕ) → (n + 1) * m ≡ n * m + m
-    add-one-mul n m = omega (arith, add-mul n 1 m)
+    d ∙ rw (e, row-next n m) (sym (stored-append (n * m) m w v out))
 
 pub stored-ext : (n : ℕ) (w v w′ v′ : ℕ → ℕ) (out : List ℕ)
     → ((k : ℕ) → k < n → w k ≡ w′ k) → ((k : ℕ) → k < n → v k ≡ v′ k)

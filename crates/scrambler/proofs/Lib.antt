@@ -1,2 +1,1 @@
-pub mod Extra
 pub mod ScramblerLaws

@@ -9,9 +9,8 @@ use native.Mathlib.Omega.{arith}
 use lib.Bits.{bitXor, xor-lt}
 use lib.ListN.{length, getD}
 use Rattle.bits.specs.Bits.{bitOf, pack, byteOf, bytesOf}
-use Rattle.bits.proofs.BitLaws.{Binary, pack-ext, byte-bits, bit-binary, bits-bytes, bytes-bits, same-bits}
+use Rattle.bits.proofs.BitLaws.{Binary, pack-ext, xor-cancel, pack-xor, length-bytes, byte-bits, bit-binary, bits-bytes, bytes-bits, same-bits}
 use Rattle.scrambler.specs.Scrambler.{stage, feedback, shifted, afterShifts, scramblerBit, allOnes, scrambled, scramble}
-use Rattle.scrambler.proofs.Extra.{xor-cancel, pack-xor, length-bytes}
 
 -- ---- the register
 

@@ -2,7 +2,6 @@
 use mathlib.Core.Path.{_≡_, sym, ap, _∙_, subst}
 use mathlib.Core.Bool.{Bool, true, false, not, _||_}
 use mathlib.Core.List.{List, [], _∷_, _++_}
-use mathlib.Core.Logic.{_⊎_, ⊎-elim}
 use Prim.Native.Nat.{ℕ, _+_, _-_, _*_, _/_, _%_, _<_, _≤_, _∣_}
 use native.Mathlib.Nat.{mod-lt, mod-add-mod, mod-mod-of-dvd, dvd-mul-left, add-mul-mod-self-right, div-add-mod', div-mul-le-self}
 use native.Mathlib.Omega.{arith}
@@ -12,11 +11,11 @@ use lib.Seq.{ext-getD}
 use borrow.Author.Tests.{eq-eqb, ne-eqb}
 use Rattle.bits.specs.Ranges.{allBelow}
 use Rattle.bits.specs.Permutations.{Permutes}
+use Rattle.bits.proofs.NumberLaws.{lt-cases, mod-near}
 use Rattle.bits.proofs.RangeLaws.{at-each, agree, under}
 use Rattle.card.specs.Modes.{blockBytes}
 use Rattle.turbo.specs.Pairs.{pairCount}
 use Rattle.turbo.specs.Interleave.{starts16, starts72, starts136, starts264, starts520, starts, placeBy, Interleaver, exchangedAt, interleavedBy, place}
-use Rattle.turbo.proofs.Extra.{lt-or-le, near}
 
 module _ (l : ℕ) (s : List ℕ) (I : Interleaver l s) where
   -- the entry of the column of x, and what is reduced mod l
@@ -52,7 +51,7 @@ module _ (l : ℕ) (s : List ℕ) (I : Interleaver l s) where
       let a : entry x ≡ entry y = ap (λ (m : ℕ). getD s m 0) c in
       let d : ℕ = y / length s * length s - x / length s * length s in
       let far : whole-sum y + d ≡ whole-sum x = omega (arith, sum-back x hx, sum-back y hy) in
-      let z : d ≡ 0 = near l (whole-sum y) d (omega (arith, div-mul-le-self y (length s))) (ap (λ (m : ℕ). m % l) far ∙ e) in
+      let z : d ≡ 0 = mod-near l (whole-sum y) d (omega (arith, div-mul-le-self y (length s))) (ap (λ (m : ℕ). m % l) far ∙ e) in
       omega (arith, div-add-mod' x (length s), div-add-mod' y (length s))
 
   -- I takes each place below l once
@@ -62,8 +61,8 @@ module _ (l : ℕ) (s : List ℕ) (I : Interleaver l s) where
       record {
         below = λ x h. mod-lt _ (omega arith);
         apart = λ x y hx hy e.
-            ⊎-elim (λ h. sym (ordered y x hy hx (omega arith) (sym e))) (λ h. ordered x y hx hy h e)
-            (lt-or-le (y / length s * length s) (x / length s * length s));
+            lt-cases (y / length s * length s) (x / length s * length s)
+            (λ h. sym (ordered y x hy hx (omega arith) (sym e))) (λ h. ordered x y hx hy h e);
       }
 
 -- ---- the tables

@@ -1,4 +1,3 @@
-pub mod Extra
 pub mod RingLaws
 pub mod InterleaveLaws
 pub mod PunctureLaws

@@ -10,14 +10,13 @@ use lib.ListN.{length, getD, set}
 use Rattle.bits.specs.Bits.{bitOf}
 use Rattle.bits.specs.Lists.{written}
 use Rattle.bits.specs.Sums.{count}
-use Rattle.bits.proofs.ListLaws.{length-written, getD-written}
+use Rattle.bits.proofs.ListLaws.{length-written, getD-written, written-two}
 use Rattle.card.specs.Modes.{blockBytes}
 use Rattle.turbo.specs.Pairs.{pairCount, pairAt}
 use Rattle.turbo.specs.Encoder.{next, stateAt, ringStart, parityAt}
 use Rattle.turbo.specs.Interleave.{place, exchangedAt, interleavedBy, interleaved}
 use Rattle.turbo.specs.Puncture.{kept, keptTime, keptCount}
 use Rattle.turbo.specs.Parity.{inputOf, keptBit, Inputs}
-use Rattle.turbo.proofs.Extra.{written-two}
 use Rattle.turbo.proofs.RingLaws.{state-lt, parity-lt, parity-ext}
 use Rattle.turbo.proofs.InterleaveLaws.{place-permutes}
 use Rattle.turbo.proofs.PunctureLaws.{kept-time, time-lt}

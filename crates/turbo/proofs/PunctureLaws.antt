@@ -7,11 +7,10 @@ use native.Mathlib.Omega.{arith}
 use lib.Count.{ones, onesIn}
 use lib.Dec.{eqb, lit<}
 use Rattle.bits.specs.Sums.{sum, count}
-use Rattle.bits.proofs.RangeLaws.{agree₂}
-use Rattle.bits.proofs.SumLaws.{count-le}
+use Rattle.bits.proofs.RangeLaws.{agree₂, agree-tests}
+use Rattle.bits.proofs.SumLaws.{count-le, count-lt, lowest-nth, nth}
 use Rattle.turbo.specs.Pairs.{pairCount}
 use Rattle.turbo.specs.Puncture.{row, kept, keptTime, keptCount}
-use Rattle.turbo.proofs.Extra.{agree-tests, count-lt, lowest-nth, nth}
 
 -- puncturing goes by t mod 16
 kept-mod : (rate t : ℕ) → kept rate t ≡ kept rate (t % 16)

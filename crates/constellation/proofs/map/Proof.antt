@@ -11,7 +11,7 @@ use Rattle.bits.specs.Lists.{firstAbove}
 use Rattle.refusal.specs.Report.{done, refused}
 use Rattle.card.specs.Modes.{carrierBits}
 use Rattle.constellation.specs.Mapping.{pointOf}
-use Rattle.constellation.proofs.Extra.{none-above}
+use Rattle.bits.proofs.ListLaws.{none-above}
 use Rattle.constellation.proofs.MappingLaws.{carrier-bits-le, item-refused, point-reported}
 use Rattle.constellation.proofs.map.Statement.{statement}
 use Rattle.constellation.proofs.map.Tie as tie

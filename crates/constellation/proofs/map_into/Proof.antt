@@ -6,7 +6,7 @@ use native.Mathlib.Omega.{arith}
 use lib.ListN.{length, getD}
 use Rattle.bits.specs.Lists.{firstAbove}
 use Rattle.card.specs.Modes.{carrierBits}
-use Rattle.constellation.proofs.Extra.{none-above}
+use Rattle.bits.proofs.ListLaws.{none-above}
 use Rattle.constellation.proofs.EntryLaws.{both, map-mode, map-length, map-room, map-item, map-done}
 use Rattle.constellation.proofs.map_into.Statement.{statement}
 use Rattle.constellation.proofs.map_into.Tie as tie

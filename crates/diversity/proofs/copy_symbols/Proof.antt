@@ -4,10 +4,10 @@ use Prim.Native.Nat.{ℕ, _+_, _-_, _*_, _≤_}
 use native.Mathlib.Omega.{arith}
 use lib.ListN.{length, getD, length-take, length-drop}
 use Rattle.bits.specs.Lists.{written}
-use Rattle.bits.proofs.ListLaws.{written-none, written-all}
+use Rattle.bits.proofs.NumberLaws.{row-next, row-within}
+use Rattle.bits.proofs.ListLaws.{written-none, written-all, written-part}
 use Rattle.diversity.specs.Lanes.{laneBit}
-use Rattle.diversity.proofs.Extra.{row-next, row-within, rows-all, written-part}
-use Rattle.diversity.proofs.LaneLaws.{lane-symbol}
+use Rattle.diversity.proofs.LaneLaws.{rows-all, lane-symbol}
 use borrow.Author.Needs.{needs}
 use Rattle.diversity.proofs.copy_symbols.Statement.{statement}
 use Rattle.diversity.proofs.copy_symbols.Tie as tie
@@ -68,7 +68,7 @@ loop-again c =
       refl,
       omega (arith, row-next (at .s) (args .carriers)),
       omega arith,
-      written-part _ _ _ _ _ _ _ (at .inv .4) (omega (arith, fits turn))
+      written-part _ _ _ _ _ _ _ (at .inv .4)
           (λ j l. ap (λ (b : ℕ). getD (args .coded .now) b 0) (lane-symbol (args .carriers) (args .offsets .now) (at .s) (at .n) j (at .inv .2) l))
           (c .before .before .copy-symbol .ensures),
     )

@@ -3,10 +3,10 @@ use mathlib.Core.Path.{_≡_, refl}
 use Prim.Native.Nat.{_+_, _-_, _*_, _≤_}
 use native.Mathlib.Omega.{arith}
 use lib.ListN.{length, length-take, length-drop}
+use Rattle.bits.proofs.NumberLaws.{row-next, row-within}
 use Rattle.diversity.specs.Lanes.{laneBit, rides}
 use Rattle.diversity.specs.Counters.{counted}
-use Rattle.diversity.proofs.Extra.{row-next, row-within, rows-all}
-use Rattle.diversity.proofs.LaneLaws.{rides-symbol}
+use Rattle.diversity.proofs.LaneLaws.{rows-all, rides-symbol}
 use Rattle.diversity.proofs.CounterLaws.{counted-none, counted-append, counted-all, room-after, room-less}
 use borrow.Author.Needs.{needs}
 use Rattle.diversity.proofs.count_symbols.Statement.{statement}

@@ -9,7 +9,7 @@ use lib.ListN.{length, getD, length-set}
 use Rattle.interleaver.specs.declared.Columns.{Columns}
 use Rattle.interleaver.specs.Source.{column, sourceOf, codedOf}
 use Rattle.interleaver.specs.Stores.{stored}
-use Rattle.interleaver.proofs.Extra.{cond-lt}
+use Rattle.bits.proofs.BoolLaws.{cond-lt}
 use Rattle.interleaver.proofs.SourceLaws.{column-source, column-lt}
 use Rattle.interleaver.proofs.StoreLaws.{stored-none, stored-next, stored-ext}
 use Rattle.interleaver.proofs.move_nibble.Statement.{statement}

@@ -10,13 +10,12 @@ use borrow.Author.Needs.{needs}
 use Rattle.bits.specs.Bits.{bitOf}
 use Rattle.bits.specs.Lists.{written}
 use Rattle.bits.specs.Sums.{sum, count}
-use Rattle.bits.proofs.SumLaws.{count-le}
+use Rattle.bits.proofs.SumLaws.{count-le, count-true, count-false}
 use Rattle.bits.proofs.ListLaws.{written-none, written-all}
 use Rattle.turbo.specs.Pairs.{pairCount, pairAt}
 use Rattle.turbo.specs.Puncture.{kept, keptCount}
 use Rattle.turbo.specs.Parity.{inputOf, keptBit}
 use Rattle.turbo.proofs.StepLaws.{few-pairs, pair-lt}
-use Rattle.turbo.proofs.Extra.{count-true, count-false}
 use Rattle.turbo.proofs.RingLaws.{ring-lt, parity-there}
 use Rattle.turbo.proofs.PunctureLaws.{kept-room}
 use Rattle.turbo.proofs.ParityLaws.{passTwo, input-lt, input-one, state-none, state-next, state-small, kept-turn}
