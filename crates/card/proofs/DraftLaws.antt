@@ -6,8 +6,8 @@ use native.Mathlib.Omega.{arith}
 use lib.ListN.{length, take, drop, length-append}
 use lib.Seq.{length-take-le}
 use Rattle.refusal.specs.declared.Refusal.{Refusal}
-use Rattle.refusal.specs.declared.Refusal.the-variants.{CardLength, Version, Mode, Pad, Length, Room, Item, Majority, Parity}
 use Rattle.refusal.specs.Report.{refusal, number}
+use Rattle.refusal.proofs.OutcomeLaws.{refused-as}
 use Rattle.text.specs.Text.{ascii, decimal, line, appended}
 use Rattle.text.proofs.TextLaws.{take-appended}
 use Rattle.card.specs.declared.Draft.{Draft}
@@ -31,15 +31,7 @@ holds-as d s t m n h e l = record { text-is = h .text-is ∙ e; len-is = h .len-
 
 -- the text of a refusal goes by its number
 pub text-refusal : (r : Refusal) → textOf (refusal r) ≡ line (ascii "refused") (decimal (number (refusal {A = ℕ} r)))
-text-refusal (CardLength n) = refl
-text-refusal Version = refl
-text-refusal Mode = refl
-text-refusal (Pad n) = refl
-text-refusal (Length n) = refl
-text-refusal (Room n) = refl
-text-refusal (Item n) = refl
-text-refusal (Majority n) = refl
-text-refusal (Parity n) = refl
+text-refusal r = refused-as textOf r .1
 
 -- a draft that holds a text, put at the start of a buffer
 pub put-text : (d : Draft) (text out now : List ℕ) (most : ℕ) → Holds d text most → now ≡ take (d .len) (d .bytes) ++ drop (length (take (d .len) (d .bytes))) out

@@ -9,9 +9,10 @@ use lib.ListN.{length, getD, drop, set}
 use Rattle.bits.specs.Lists.{firstAbove}
 use Rattle.bits.proofs.ListLaws.{set-two}
 use Rattle.refusal.specs.declared.Refusal.{Refusal}
-use Rattle.refusal.specs.declared.Refusal.the-variants.{CardLength, Version, Mode, Pad, Length, Room, Item, Majority, Parity}
+use Rattle.refusal.specs.declared.Refusal.the-variants.{Mode, Length, Room, Item}
 use Rattle.refusal.specs.Report.{done, refusal}
 use Rattle.refusal.specs.Outcome.{Outcome}
+use Rattle.refusal.proofs.OutcomeLaws.{refused-as}
 use Rattle.card.specs.Modes.{carrierBits}
 use Rattle.constellation.specs.declared.Point.{Point}
 use Rattle.constellation.specs.declared.Received.{Received}
@@ -88,19 +89,8 @@ given-items : (m : ℕ) (r : Received) → m ≤ 2 → (s : Sliced) → sliced s
 given-items m r h s e = ap given (simp (le-ltb 2 m h) at e)
 
 -- a refusal gives no items
-given-refusal : (r : Refusal) → given (refusal r) ≡ []
-given-refusal (CardLength n) = refl
-given-refusal Version = refl
-given-refusal Mode = refl
-given-refusal (Pad n) = refl
-given-refusal (Length n) = refl
-given-refusal (Room n) = refl
-given-refusal (Item n) = refl
-given-refusal (Majority n) = refl
-given-refusal (Parity n) = refl
-
 pub refused-kept : (s : Sliced) (r : Refusal) (out : List ℕ) → s ≡ Refused r → out ≡ given (sliced s) ++ drop (length (given (sliced s))) out
-refused-kept s r out e = rw (e, given-refusal r)
+refused-kept s r out e = rw (e, refused-as given r .1)
 
 pub items-fit : (m : ℕ) (r : Received) → m ≤ 2 → {n k : ℕ} → n ≡ carrierBits m → n ≤ k → (s : Sliced) → sliced s ≡ slicing m r → length (given (sliced s)) ≤ k
 items-fit m r d e h s g = rw (given-items m r d s g, length-items m r d) (rw e at h)

@@ -3,14 +3,13 @@ use mathlib.Core.Path.{_≡_, refl, sym, ap, _∙_}
 use mathlib.Core.Bool.{Bool, true, false, cond}
 use mathlib.Core.List.{List, [], _∷_, _++_}
 use Prim.{Unit}
-use Prim.Native.Nat.{ℕ, _<_}
+use Prim.Native.Nat.{ℕ}
 use native.Mathlib.Omega.{arith}
 use lib.Dec.{eqb}
+use lib.ListN.{length}
 use Rattle.refusal.specs.declared.Refusal.{Refusal}
 use Rattle.refusal.specs.declared.Refusal.the-variants.{CardLength, Version, Mode, Pad, Length, Room, Item, Majority, Parity}
-use Rattle.refusal.specs.declared.Answer.{Answer}
-use Rattle.refusal.specs.declared.Answer.the-variants.{Done, Refused}
-use Rattle.refusal.specs.Report.{Report, done, refused, refusal, answer, number}
+use Rattle.refusal.specs.Report.{Report, done, refused, refusal, number}
 use Rattle.refusal.specs.Outcome.{Row, Outcome, firstApplicable, inOrder, rowOrder, reported, outcome}
 
 -- the outcome by rows that are in order
@@ -38,21 +37,52 @@ kept rows out a made h = kept-by (inOrder rowOrder rows) out a made h
 pub done-same : {A : Type 0} {a b : A} → done a ≡ done b → a ≡ b
 done-same e = cc
 
+-- ---- the report of a refusal
+
+-- the refusal that a report comes from, as a list of one; none where it is an answer
+back : {A : Type 0} → Report A → List Refusal
+back (done a) = []
+back (refused n v w) =
+    cond (eqb n 1) (CardLength v)
+    (cond (eqb n 2) Version
+    (cond (eqb n 9) (Pad v)
+    (cond (eqb n 4) (Length v)
+    (cond (eqb n 5) (Room v)
+    (cond (eqb n 6) (Item v)
+    (cond (eqb n 7) (Majority v)
+    (cond (eqb n 8) (Parity v) Mode)))))))
+    ∷ []
+
+-- a refusal's report is its number with one value, and no other refusal has it
+reported-as : (A : Type 0) (r : Refusal) → (v : ℕ) × (refusal {A = A} r ≡ refused (number (refusal {A = ℕ} r)) v 0) × (back (refusal {A = A} r) ≡ r ∷ [])
+unfolding back
+reported-as A (CardLength n) = (n, refl, refl)
+reported-as A Version = (0, refl, refl)
+reported-as A Mode = (0, refl, refl)
+reported-as A (Pad n) = (n, refl, refl)
+reported-as A (Length n) = (n, refl, refl)
+reported-as A (Room n) = (n, refl, refl)
+reported-as A (Item n) = (n, refl, refl)
+reported-as A (Majority n) = (n, refl, refl)
+reported-as A (Parity n) = (n, refl, refl)
+
+-- what is made of any report is made of a refusal's by its number and a value
+pub refused-as : {A X : Type 0} (f : Report A → X) (r : Refusal) → (v : ℕ) × (f (refusal r) ≡ f (refused (number (refusal {A = ℕ} r)) v 0))
+refused-as {A} f r = let (v, e, b) = reported-as A r in (v, ap f e)
+
+-- two refusals with one report are the same refusal
+pub refusal-decides : (A : Type 0) (r s : Refusal) → refusal {A = A} r ≡ refusal s → r ≡ s
+refusal-decides A r s e = let q : r ∷ [] ≡ s ∷ [] = sym (reported-as A r .2) ∙ ap back e ∙ reported-as A s .2 in cc
+
+-- no refusal's report is an answer
+not-done : {A : Type 0} (r : Refusal) {a : A} → refusal r ≡ done a → ⊥
+unfolding back
+not-done {A} r e = let q : r ∷ [] ≡ [] = sym (reported-as A r .2) ∙ ap back e in let z : _≡_ {A = ℕ} 1 0 = ap length q in omega arith
+
 -- no row applies
 abbrev pub NoneApplies : List Row → Type 0
 NoneApplies [] = Unit {0}
 NoneApplies (r ∷ rs) = (r .applies ≡ false) × NoneApplies rs
-
-refusal-number : (A : Type 0) (r : Refusal) → 0 < number (refusal {A = A} r)
-refusal-number A (CardLength n) = omega arith
-refusal-number A Version = omega arith
-refusal-number A Mode = omega arith
-refusal-number A (Pad n) = omega arith
-refusal-number A (Length n) = omega arith
-refusal-number A (Room n) = omega arith
-refusal-number A (Item n) = omega arith
-refusal-number A (Majority n) = omega arith
-refusal-number A (Parity n) = omega arith
 
 done-by : {A : Type 0} (rows : List Row) (a d : A) → firstApplicable rows refusal (done a) ≡ done d → NoneApplies rows × (firstApplicable rows refusal (done a) ≡ done a)
 done-by [] a d e = (tt, refl)
@@ -61,7 +91,7 @@ done-by {A} (r ∷ rows) a d e = go (r .applies) refl e (done-by rows a d)
     go : (b : Bool) → r .applies ≡ b → cond b (refusal (r .cause)) (firstApplicable rows refusal (done a)) ≡ done d
         → (firstApplicable rows refusal (done a) ≡ done d → NoneApplies rows × (firstApplicable rows refusal (done a) ≡ done a))
         → ((r .applies ≡ false) × NoneApplies rows) × (cond (r .applies) (refusal (r .cause)) (firstApplicable rows refusal (done a)) ≡ done a)
-    go true q f ih = absurd (let z : number (refusal {A = A} (r .cause)) ≡ 0 = ap number f in omega (arith, refusal-number A (r .cause)))
+    go true q f ih = absurd (not-done (r .cause) f)
     go false q f ih = let (none, is) = ih f in ((q, none), (rw q is))
 
 -- where an entry is done, no row applies
@@ -89,40 +119,11 @@ report-by {A} {B} (r ∷ rows) out a made = go (r .applies) (report-by rows out 
 pub outcome-done : {A B : Type 0} (rows : List Row) (out : B) (a d : A) (made : B) → outcome rows out a made .report ≡ done d → NoneApplies (inOrder rowOrder rows)
 outcome-done rows out a d made e = done-by (inOrder rowOrder rows) a d (sym (report-by (inOrder rowOrder rows) out a made) ∙ e) .0
 
--- the refusal of a report
-back : {A : Type 0} → Report A → Refusal
-back (done a) = Mode
-back (refused n v w) =
-    cond (eqb n 1) (CardLength v)
-    (cond (eqb n 2) Version
-    (cond (eqb n 9) (Pad v)
-    (cond (eqb n 4) (Length v)
-    (cond (eqb n 5) (Room v)
-    (cond (eqb n 6) (Item v)
-    (cond (eqb n 7) (Majority v)
-    (cond (eqb n 8) (Parity v) Mode)))))))
-
-back-refusal : (A : Type 0) (r : Refusal) → back (refusal {A = A} r) ≡ r
-unfolding back
-back-refusal A (CardLength n) = refl
-back-refusal A Version = refl
-back-refusal A Mode = refl
-back-refusal A (Pad n) = refl
-back-refusal A (Length n) = refl
-back-refusal A (Room n) = refl
-back-refusal A (Item n) = refl
-back-refusal A (Majority n) = refl
-back-refusal A (Parity n) = refl
-
--- two refusals with one report are the same refusal
-pub refusal-decides : (A : Type 0) (r s : Refusal) → refusal {A = A} r ≡ refusal s → r ≡ s
-refusal-decides A r s e = sym (back-refusal A r) ∙ ap back e ∙ back-refusal A s
-
 -- ---- rows that come first: what they report decides, and where they let pass, the rest does
 
 refused-first : {A X : Type 0} (rows rest : List Row) (a : A) (r : Refusal) (f : Refusal → X) (good : X)
     → firstApplicable rows refusal (done a) ≡ refusal r → firstApplicable (rows ++ rest) f good ≡ f r
-refused-first {A} [] rest a r f good e = absurd (let z : 0 ≡ number (refusal {A = A} r) = ap number e in omega (arith, refusal-number A r))
+refused-first {A} [] rest a r f good e = absurd (not-done r (sym e))
 refused-first {A} {X} (x ∷ rows) rest a r f good e = go (x .applies) e (refused-first rows rest a r f good)
   where
     go : (b : Bool) → cond b (refusal (x .cause)) (firstApplicable rows refusal (done a)) ≡ refusal r
