@@ -2,16 +2,14 @@
 use mathlib.Core.Path.{_≡_, refl, sym, ap, _∙_}
 use mathlib.Core.List.{List}
 use Prim.Native.Nat.{ℕ, zero, suc, _+_, _-_, _*_, _/_, _%_, _^_, _≤_, _<_}
-use native.Mathlib.Nat.{add-zero, add-suc, add-assoc, mul-assoc, eq-or-lt-of-le, le-of-suc-le-suc, not-suc-le-zero, div-add-mod'}
+use native.Mathlib.Nat.{add-zero, add-suc, add-assoc, mul-assoc, eq-or-lt-of-le, le-of-suc-le-suc, not-suc-le-zero, div-add-mod', pow-suc}
 use mathlib.Core.Logic.{_⊎_, inl, inr}
 use native.Mathlib.Numerals.{add-one, one-add}
 use native.Mathlib.Omega.{arith}
 use lib.Arith.{bin-ind, digits-div, digits-mod}
 use lib.Bits.{bitXor, differ, xor-step, xor-self, xor-block}
 use lib.ListN.{length, getD}
-use lib.Pow.{pow-pos, pow-add, shr-shr, mod-pow-add}
-use lib.Seq.{ext-getD}
-use Rattle.bits.specs.Lists.{tabulate}
+use lib.Pow.{shr-shr, mod-pow-add}
 use Rattle.bits.specs.Bits.{bitAt, bitOf, pack, byteOf, field, bytesOf}
 use Rattle.bits.proofs.ListLaws.{length-tabulate, getD-tabulate, tabulate-of, tabulate-ext}
 use Rattle.bits.proofs.RangeLaws.{agree₂, under₂}
@@ -29,22 +27,19 @@ unfolding pack
 pack-ext zero d e h = refl
 pack-ext (suc n) d e h = rw (pack-ext n d e (λ j l. h j (omega arith)), h n (omega arith))
 
-pow-suc : (n : ℕ) → 2 ^ suc n ≡ 2 ^ n * 2
-pow-suc n = ap (λ (k : ℕ). 2 ^ k) (sym (add-one n)) ∙ pow-add 2 n 1
-
 pub pack-lt : (n : ℕ) (d : ℕ → ℕ) → Binary n d → pack n d < 2 ^ n
 unfolding pack
 pack-lt zero d h = omega arith
-pack-lt (suc n) d h = omega (arith, pow-suc n, pack-lt n d (λ j l. h j (omega arith)), h n (omega arith))
+pack-lt (suc n) d h = omega (arith, pow-suc 2 n, pack-lt n d (λ j l. h j (omega arith)), h n (omega arith))
 
 -- n bits, and then m: the number of the first shifted up by m
 pub pack-append : (n m : ℕ) (d : ℕ → ℕ) → pack (n + m) d ≡ pack n d * 2 ^ m + pack m (λ j. d (n + j))
 unfolding pack
 pack-append n zero d = rw add-zero (omega arith)
-pack-append n (suc m) d = rw add-suc (omega (arith, pack-append n m d, pow-suc m, spread))
+pack-append n (suc m) d = rw add-suc (omega (arith, pack-append n m d, pow-suc 2 m, spread))
   where
     spread : pack n d * 2 ^ suc m ≡ pack n d * 2 ^ m * 2
-    spread = ap (λ (p : ℕ). pack n d * p) (pow-suc m) ∙ sym (mul-assoc (pack n d) (2 ^ m) 2)
+    spread = ap (λ (p : ℕ). pack n d * p) (pow-suc 2 m) ∙ sym (mul-assoc (pack n d) (2 ^ m) 2)
 
 bit-up : (k x b : ℕ) → b < 2 → bitAt (suc k) (x * 2 + b) ≡ bitAt k x
 bit-up k x b h =
@@ -71,7 +66,7 @@ unfolding pack
 pack-bits zero x = omega arith
 pack-bits (suc n) x =
     rw (pack-ext n _ (λ j. bitAt (n - 1 - j) (x / 2)) below, pack-bits n (x / 2), last)
-    (omega (arith, mod-pow-add x n 1, pow-suc n, ap (λ (k : ℕ). x % 2 ^ k) (add-one n)))
+    (omega (arith, mod-pow-add x n 1, pow-suc 2 n, ap (λ (k : ℕ). x % 2 ^ k) (add-one n)))
   where
     last : suc n - 1 - n ≡ 0
     last = omega arith
@@ -80,6 +75,10 @@ pack-bits (suc n) x =
     below j h =
         let z : suc n - 1 - j ≡ 1 + (n - 1 - j) = omega arith in
         rw (z, ← shr-shr x 1 (n - 1 - j))
+
+-- the bits of a number from bit s up, packed
+pub pack-shifted : (n s x : ℕ) → pack n (λ j. bitAt (s + (n - 1 - j)) x) ≡ x / 2 ^ s % 2 ^ n
+pack-shifted n s x = pack-ext n _ (λ j. bitAt (n - 1 - j) (x / 2 ^ s)) (λ j h. ap (λ (y : ℕ). y % 2) (sym (shr-shr x s (n - 1 - j)))) ∙ pack-bits n (x / 2 ^ s)
 
 -- ---- exclusive-or
 
@@ -106,21 +105,25 @@ pack-xor (suc n) d e hd he =
 
 -- ---- bytes
 
-pub length-bytes : (n : ℕ) (d : ℕ → ℕ) → length (bytesOf n d) ≡ n
-unfolding bytesOf
-length-bytes n d = length-tabulate n (byteOf d)
+-- a field within one byte
+pub field-in-byte : (bytes : List ℕ) (k i n : ℕ) → i + n ≤ 8 → field bytes (8 * k + i) n ≡ getD bytes k 0 / 2 ^ (8 - i - n) % 2 ^ n
+unfolding field bitOf
+field-in-byte bytes k i n h = pack-ext n _ (λ j. bitAt (8 - i - n + (n - 1 - j)) (getD bytes k 0)) same ∙ pack-shifted n (8 - i - n) (getD bytes k 0)
+  where
+    same : (j : ℕ) → j < n → bitAt (7 - (8 * k + i + j) % 8) (getD bytes ((8 * k + i + j) / 8) 0) ≡ bitAt (8 - i - n + (n - 1 - j)) (getD bytes k 0)
+    same j l =
+        let q : (8 * k + i + j) / 8 ≡ k = omega arith in
+        let r : 7 - (8 * k + i + j) % 8 ≡ 8 - i - n + (n - 1 - j) = omega arith in
+        rw (q, r)
 
 -- a byte's bits, packed again, are the byte
 pub byte-bits : (bytes : List ℕ) (k : ℕ) → getD bytes k 0 < 256 → byteOf (bitOf bytes) k ≡ getD bytes k 0
-unfolding byteOf bitOf
-byte-bits bytes k h =
-    pack-ext 8 _ (λ j. bitAt (8 - 1 - j) (getD bytes k 0)) same ∙ pack-bits 8 (getD bytes k 0) ∙ omega arith
-  where
-    same : (j : ℕ) → j < 8 → bitAt (7 - (8 * k + j) % 8) (getD bytes ((8 * k + j) / 8) 0) ≡ bitAt (8 - 1 - j) (getD bytes k 0)
-    same j l =
-        let q : (8 * k + j) / 8 ≡ k = omega arith in
-        let r : 7 - (8 * k + j) % 8 ≡ 8 - 1 - j = omega arith in
-        rw (q, r)
+unfolding byteOf field
+byte-bits bytes k h = let e : 8 * k + 0 ≡ 8 * k = omega arith in rw e at (field-in-byte bytes k 0 8 (omega arith)) ∙ omega arith
+
+pub length-bytes : (n : ℕ) (d : ℕ → ℕ) → length (bytesOf n d) ≡ n
+unfolding bytesOf
+length-bytes n d = length-tabulate n (byteOf d)
 
 pub bit-binary : (bytes : List ℕ) (i : ℕ) → bitOf bytes i < 2
 unfolding bitOf
@@ -164,18 +167,3 @@ field-byte bytes k h = byte-bits bytes k h
 pub field-lt : (bytes : List ℕ) (at n : ℕ) → field bytes at n < 2 ^ n
 unfolding field
 field-lt bytes at n = pack-lt n (λ j. bitOf bytes (at + j)) (λ j h. bit-binary bytes (at + j))
-
--- the bits of a number from bit s up, packed
-pub pack-shifted : (n s x : ℕ) → pack n (λ j. bitAt (s + (n - 1 - j)) x) ≡ x / 2 ^ s % 2 ^ n
-pack-shifted n s x = pack-ext n _ (λ j. bitAt (n - 1 - j) (x / 2 ^ s)) (λ j h. ap (λ (y : ℕ). y % 2) (sym (shr-shr x s (n - 1 - j)))) ∙ pack-bits n (x / 2 ^ s)
-
--- a field within one byte
-pub field-in-byte : (bytes : List ℕ) (k i n : ℕ) → i + n ≤ 8 → field bytes (8 * k + i) n ≡ getD bytes k 0 / 2 ^ (8 - i - n) % 2 ^ n
-unfolding field bitOf
-field-in-byte bytes k i n h = pack-ext n _ (λ j. bitAt (8 - i - n + (n - 1 - j)) (getD bytes k 0)) same ∙ pack-shifted n (8 - i - n) (getD bytes k 0)
-  where
-    same : (j : ℕ) → j < n → bitAt (7 - (8 * k + i + j) % 8) (getD bytes ((8 * k + i + j) / 8) 0) ≡ bitAt (8 - i - n + (n - 1 - j)) (getD bytes k 0)
-    same j l =
-        let q : (8 * k + i + j) / 8 ≡ k = omega arith in
-        let r : 7 - (8 * k + i + j) % 8 ≡ 8 - i - n + (n - 1 - j) = omega arith in
-        rw (q, r)

@@ -1,3 +1,4 @@
+-- The laws of what `bits` defines. Assumes nothing.
 pub mod BoolLaws
 pub mod NumberLaws
 pub mod ListLaws

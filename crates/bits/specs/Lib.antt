@@ -1,3 +1,4 @@
+-- What the contracts and the theorems of `bits` cite. Assumes nothing.
 pub mod Lists
 pub mod Bits
 pub mod Sums

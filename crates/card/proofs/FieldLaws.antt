@@ -6,7 +6,7 @@ use lib.Dec.{ltb}
 use lib.ListN.{length, drop}
 use Rattle.refusal.specs.declared.Refusal.{Refusal}
 use Rattle.refusal.specs.declared.Refusal.the-variants.{Room}
-use Rattle.refusal.specs.Report.{Report, done, refusal}
+use Rattle.refusal.specs.Report.{done, refusal}
 use Rattle.refusal.specs.Outcome.{Row, row, firstApplicable}
 use Rattle.refusal.proofs.OutcomeLaws.{settled, done-same, reported-done, refused-outcome, passed-outcome}
 use Rattle.card.specs.declared.Card.{Card}

@@ -1,3 +1,4 @@
+-- What the proofs of `card` share, and its theorems. Assumes nothing.
 pub mod CardLaws
 pub mod WriteLaws
 pub mod RoundTrip

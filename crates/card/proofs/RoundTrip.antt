@@ -1,17 +1,17 @@
 -- Writing after reading gives the bytes back, and reading after writing gives the fields back. Assumes nothing.
 use mathlib.Core.Path.{_≡_, refl, sym, ap, _∙_}
-use mathlib.Core.Bool.{Bool, true, false, not, _&&_}
+use mathlib.Core.Bool.{true, false, not, _&&_}
 use mathlib.Core.List.{List, [], _∷_, _++_}
 use Prim.{Unit}
 use Prim.Native.Nat.{ℕ, zero, suc, _+_, _-_, _*_, _/_, _%_, _^_, _≤_, _<_}
 use native.Mathlib.Nat.{add-zero, add-assoc, zero-add, add-mul, mul-assoc, not-suc-le-zero, le-of-suc-le-suc}
 use native.Mathlib.Omega.{arith}
 use lib.Arith.{digits-lt}
-use lib.Dec.{eqb, ltb}
+use lib.Dec.{ltb}
 use lib.ListN.{length, getD, take, drop}
 use lib.Pow.{pow-add, high, low}
 use lib.Seq.{take-at}
-use borrow.Author.Tests.{eqb-true, ltb-true, lt-ltb, le-ltb, not-false}
+use borrow.Author.Tests.{eqb-true, lt-ltb, le-ltb, not-false}
 use Rattle.bits.specs.Bits.{bitAt, bitOf, pack, field, bytesOf}
 use Rattle.bits.proofs.BitLaws.{pack-ext, pack-shifted, bit-pack, bit-binary, bits-bytes, bytes-bits, same-bits, field-append, field-lt}
 use Rattle.bits.proofs.BoolLaws.{both}
@@ -20,7 +20,6 @@ use Rattle.refusal.proofs.OutcomeLaws.{done-same, reported-done, outcome-done, 
 use Rattle.card.specs.declared.Card.{Card}
 use Rattle.card.specs.Card.{widths, fieldsFrom, joined, fieldsOf, cardOf, bytesOfCard, Fitting}
 use Rattle.card.specs.Entries.{versioned, defined, cardRows, writeRows, readCard, writeCard}
-use Rattle.card.proofs.CardLaws.{versioned-is}
 use Rattle.card.proofs.WriteLaws.{writable-fits, length-card}
 
 abbrev total : List ℕ → ℕ
@@ -55,26 +54,24 @@ Each [] (v ∷ vs) = ⊥
 Each (w ∷ ws) [] = ⊥
 Each (w ∷ ws) (v ∷ vs) = (v < 2 ^ w) × Each ws vs
 
+-- a value with nothing before it
+none-before : (w v : ℕ) → 0 * 2 ^ w + v ≡ v
+none-before w v = omega arith
+
 joined-split : (ws vs : List ℕ) (n : ℕ) → Each ws vs → joined ws vs n ≡ n * 2 ^ total ws + joined ws vs 0
 joined-split [] [] n e = omega arith
 joined-split [] (v ∷ vs) n e = absurd e
 joined-split (w ∷ ws) [] n e = absurd e
 joined-split (w ∷ ws) (v ∷ vs) n (h, e) =
     joined-split ws vs (n * 2 ^ w + v) e
-    ∙ (rw (pow-add 2 w (total ws)) (omega (arith, joined-split ws vs (0 * 2 ^ w + v) e, add-mul (n * 2 ^ w) v (2 ^ total ws), mul-assoc n (2 ^ w) (2 ^ total ws), ap (λ (k : ℕ). k * 2 ^ total ws) low-zero)))
-  where
-    low-zero : 0 * 2 ^ w + v ≡ v
-    low-zero = omega arith
+    ∙ (rw (pow-add 2 w (total ws)) (omega (arith, joined-split ws vs (0 * 2 ^ w + v) e, add-mul (n * 2 ^ w) v (2 ^ total ws), mul-assoc n (2 ^ w) (2 ^ total ws), ap (λ (k : ℕ). k * 2 ^ total ws) (none-before w v))))
 
 joined-lt : (ws vs : List ℕ) → Each ws vs → joined ws vs 0 < 2 ^ total ws
 joined-lt [] [] e = omega arith
 joined-lt [] (v ∷ vs) e = absurd e
 joined-lt (w ∷ ws) [] e = absurd e
 joined-lt (w ∷ ws) (v ∷ vs) (h, e) =
-    rw (pow-add 2 w (total ws)) (omega (arith, joined-split ws vs (0 * 2 ^ w + v) e, ap (λ (k : ℕ). k * 2 ^ total ws) low-zero, digits-lt h (joined-lt ws vs e)))
-  where
-    low-zero : 0 * 2 ^ w + v ≡ v
-    low-zero = omega arith
+    rw (pow-add 2 w (total ws)) (omega (arith, joined-split ws vs (0 * 2 ^ w + v) e, ap (λ (k : ℕ). k * 2 ^ total ws) (none-before w v), digits-lt h (joined-lt ws vs e)))
 
 -- the value at place k of what was joined
 joined-at : (ws vs : List ℕ) (n k : ℕ) → Each ws vs → k < length ws → joined ws vs n / 2 ^ total (drop (suc k) ws) % 2 ^ getD ws k 0 ≡ getD vs k 0

@@ -1,23 +1,22 @@
--- Laws of writing a card: the bytes, and reading after writing and writing after reading. Assumes nothing.
+-- Laws of writing a card: its eleven bytes, and the fields that fit them. Assumes nothing.
 use mathlib.Core.Path.{_≡_, refl, sym, ap, ap₂, _∙_}
 use mathlib.Core.Bool.{true, _&&_}
 use mathlib.Core.List.{List, [], _∷_, _++_}
-use Prim.Native.Nat.{ℕ, zero, suc, _+_, _-_, _*_, _/_, _%_, _^_, _≤_, _<_}
+use Prim.Native.Nat.{ℕ, _+_, _-_, _*_, _/_, _%_, _^_, _≤_, _<_}
 use native.Mathlib.Nat.{add-mul-div-right, add-mul-mod-self-right, add-comm, mul-assoc}
 use native.Mathlib.Omega.{arith}
 use lib.Dec.{ltb}
-use lib.ListN.{length, getD, drop}
+use lib.ListN.{length, drop}
 use lib.Pow.{pow-pos, pow-add, shr-shr, high}
-use Rattle.bits.specs.Bits.{bitAt, pack, byteOf, bytesOf}
+use Rattle.bits.specs.Bits.{bitAt, byteOf, bytesOf}
 use Rattle.bits.specs.Lists.{tabulate}
 use borrow.Author.Tests.{ltb-true}
 use Rattle.bits.proofs.BoolLaws.{both}
-use Rattle.bits.proofs.ListLaws.{length-tabulate}
 use Rattle.card.specs.Entries.{versioned, defined}
 use Rattle.card.proofs.CardLaws.{versioned-is, defined-small}
-use Rattle.bits.proofs.BitLaws.{pack-ext, pack-shifted}
+use Rattle.bits.proofs.BitLaws.{pack-ext, pack-shifted, length-bytes}
 use Rattle.card.specs.declared.Card.{Card}
-use Rattle.card.specs.Card.{widths, joined, fieldsOf, Fitting, bytesOfCard}
+use Rattle.card.specs.Card.{joined, Fitting, bytesOfCard}
 
 -- byte k of a number of 88 bits
 byte-at : (n k : ℕ) → k ≤ 10 → byteOf (λ i. bitAt (87 - i) n) k ≡ n / 2 ^ (80 - 8 * k) % 256
@@ -104,8 +103,8 @@ writable-fits c v w =
     }
 
 pub length-card : (c : Card) → length (bytesOfCard c) ≡ 11
-unfolding bytesOfCard bytesOf
-length-card c = length-tabulate 11 _
+unfolding bytesOfCard
+length-card c = length-bytes 11 _
 
 -- the card's bytes, put at the start of a buffer
 pub card-put : (c : Card) (bytes out now : List ℕ) → bytes ≡ bytesOfCard c → now ≡ bytes ++ drop (length bytes) out → now ≡ bytesOfCard c ++ drop 11 out

@@ -4,7 +4,6 @@ use mathlib.Core.List.{List, [], _∷_, _++_}
 use Prim.Native.Nat.{ℕ, _^_}
 use lib.Dec.{eqb, leb, ltb}
 use lib.ListN.{length, drop}
-use Rattle.refusal.specs.declared.Refusal.{Refusal}
 use Rattle.refusal.specs.declared.Refusal.the-variants.{CardLength, Version, Mode, Room}
 use Rattle.refusal.specs.Report.{Report, done, refusal}
 use Rattle.refusal.specs.Outcome.{Row, row, Outcome, reported, outcome}

@@ -1,3 +1,4 @@
+-- What the contracts and the theorems of `card` cite. Assumes nothing.
 pub mod Modes
 pub mod Card
 pub mod Entries

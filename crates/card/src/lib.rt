@@ -19,8 +19,10 @@ ghost use Rattle.card.specs.Modes.{blockBytes, carrierBits};
 ghost use Rattle.card.specs.Card.{cardOf, bytesOfCard, fieldsOf, Fitting};
 ghost use Rattle.card.specs.Entries.{definedMode, cardRead, readCard, readFields, writeCard};
 
+// By kind: the bytes of a block.
 const BLOCK_BYTES: [usize; 5] = [16, 72, 136, 264, 520];
 
+// By modulation: the bits on a carrier.
 const CARRIER_BITS: [usize; 3] = [1, 2, 4];
 
 // A card's fields. Each is wide enough to hand over a value that does not fit the card.

@@ -5,7 +5,7 @@ use native.Mathlib.Nat.{mul-pos}
 use mathlib.Core.Path.{_≡_, refl, sym, subst, _∙_}
 use mathlib.Core.Bool.{Bool, true, false, cond}
 use borrow.Author.Tests.{ltb-true, not-false}
-use lib.Dec.{T, eqb, lit<}
+use lib.Dec.{eqb, lit<}
 use lib.IntN.{ℤ}
 use lib.Ieee.{Float, nan, inf, fin, up, down, add, sub, mul, lt, le}
 use lib.Ieee.Fits.{up-pos, down-pos}
@@ -47,31 +47,13 @@ module _ (X Y : ℕ) (unit : 0 < Y) where
 
 -- ---- what a comparison of two sizes says in whole numbers
 
--- a finite number of the sign +
-abbrev plus : Float → Bool
-plus nan = false
-plus (inf s) = false
-plus (fin true n e) = false
-plus (fin false n e) = true
+module _ (n k : ℕ) (e d : ℤ) where
+  less : lt (fin false n e) (fin false k d) ≡ true → scaled (fin false n e) (fin false k d) < scaled (fin false k d) (fin false n e)
+  unfolding lt
+  less t = ltb-true _ _ t
 
-less : (x y : Float) → T (plus x) → T (plus y) → lt x y ≡ true → scaled x y < scaled y x
-unfolding lt
-less (fin false n e) (fin false k d) p q t = ltb-true _ _ t
-less nan y p q t = absurd p
-less (inf s) y p q t = absurd p
-less (fin true n e) y p q t = absurd p
-less (fin false n e) nan p q t = absurd q
-less (fin false n e) (inf s) p q t = absurd q
-less (fin false n e) (fin true k d) p q t = absurd q
-
-more : (x y : Float) → T (plus x) → T (plus y) → le x y ≡ false → scaled y x < scaled x y
-more (fin false n e) (fin false k d) p q t = less (fin false k d) (fin false n e) tt tt (not-false _ (sym (le-not-lt n k e d) ∙ t))
-more nan y p q t = absurd p
-more (inf s) y p q t = absurd p
-more (fin true n e) y p q t = absurd p
-more (fin false n e) nan p q t = absurd q
-more (fin false n e) (inf s) p q t = absurd q
-more (fin false n e) (fin true k d) p q t = absurd q
+  more : le (fin false k d) (fin false n e) ≡ false → scaled (fin false n e) (fin false k d) < scaled (fin false k d) (fin false n e)
+  more t = less (not-false _ (sym (le-not-lt k n d e) ∙ t))
 
 -- ---- the tests of a size n · 2^e on an axis of four
 
@@ -86,15 +68,15 @@ unit-pos n e = omega (arith, down-pos e)
 
 size-pos : (n : ℕ) (e : ℤ) → le (fin false n e) (erasureWidth 2) ≡ false → 0 < size n e
 unfolding mul
-size-pos n e t = omega (arith, down-pos e, more (fin false n e) (erasureWidth 2) tt tt t)
+size-pos n e t = omega (arith, down-pos e, more _ n _ e t)
 
 within : (n : ℕ) (e : ℤ) → lt (fin false n e) lower ≡ true → size n e < 2 * unit n e
 unfolding add sub mul
-within n e t = omega (arith, less (fin false n e) lower tt tt t)
+within n e t = omega (arith, less n _ e _ t)
 
 beyond : (n : ℕ) (e : ℤ) → le (fin false n e) upper ≡ false → 2 * unit n e < size n e
 unfolding add sub mul
-beyond n e t = omega (arith, more (fin false n e) upper tt tt t)
+beyond n e t = omega (arith, more _ n _ e t)
 
 -- ---- 16QAM
 
@@ -153,7 +135,7 @@ factor-at false false = (_, _, refl, lit< tt)
 above-pos : (w : Float) (n : ℕ) (e : ℤ) → Size w → le (fin false n e) w ≡ false → 0 < n
 above-pos w n e p t =
     let u = subst (λ (v : Float). le (fin false n e) v ≡ false) (p .2) t in
-    let h = more (fin false n e) (fin false (p .0) (p .1)) tt tt u in
+    let h = more (p .0) n (p .1) e u in
     let g : 0 < n * up e * down (p .1) = omega (arith, h) in
     first-pos n (up e) (first-pos (n * up e) (down (p .1)) g)
 

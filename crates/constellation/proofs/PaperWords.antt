@@ -1,8 +1,8 @@
 -- While the erasure widths are 0, slicing is what paper 01 words by equality with zero and with ±2f. Assumes nothing.
-use Prim.Native.Nat.{ℕ, _*_, _<_, _≤_}
+use Prim.Native.Nat.{ℕ, _*_, _<_}
 use native.Mathlib.Omega.{arith}
 use mathlib.Core.Path.{_≡_, refl, _∙_, ap}
-use mathlib.Core.Bool.{Bool, true, false, not, cond, _&&_, _||_, Bool·beq}
+use mathlib.Core.Bool.{Bool, true, false, cond, _&&_, _||_, Bool·beq, or-true, true≢false}
 use borrow.Author.Tests.{ltb-true, eqb-true, le-ltb, eq-eqb, ne-eqb}
 use lib.Dec.{ltb, eqb}
 use lib.IntN.{ℤ, negsuc}
@@ -40,11 +40,7 @@ at-most-zero a b s c h = go (eqb a b) refl
     go false p = simp (low, p)
     go true p =
         let z : a ≡ 0 = eqb-true a b p ∙ h in
-        simp (low, p, eq-eqb a 0 z, any s)
-      where
-        any : (s : Bool) → (s || true) ≡ true
-        any true = refl
-        any false = refl
+        simp (low, p, eq-eqb a 0 z, or-true s)
 
 only-zero : (s : Bool) (n : ℕ) (e : ℤ) → le (fin false n e) zero ≡ eq (fin s n e) zero
 unfolding le eq
@@ -71,10 +67,7 @@ words2 m (fin s n e) =
 alone : (z a b : Bool) (inner outer : Reading) → (a ≡ true → b ≡ false)
     → cond z lost (cond a inner (cond (a || b) lost outer)) ≡ cond (z || b) lost (cond a inner outer)
 alone true a b i o h = refl
-alone false true true i o h = let w : true ≡ false = h refl in absurd (no w)
-  where
-    no : true ≡ false → ⊥
-    no e = let z : _≡_ {A = ℕ} 0 1 = cc in omega arith
+alone false true true i o h = absurd (true≢false (h refl))
 alone false true false i o h = refl
 alone false false true i o h = refl
 alone false false false i o h = refl

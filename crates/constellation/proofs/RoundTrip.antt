@@ -1,10 +1,11 @@
 -- Mapped points slice back to their bits, one carrier and a whole list of items. The labels' own points are one computed test. Assumes nothing.
 use Prim.Native.Nat.{ℕ, zero, suc, _+_, _*_, _/_, _%_, _≤_, _<_}
-use native.Mathlib.Nat.{div-add-mod', div-lt-iff-lt-mul, le-of-eq, le-of-suc-le-suc, le-trans, mul-comm, mul-suc, mul-le-mul-left, mod-lt}
+use native.Mathlib.Nat.{div-add-mod', div-lt-iff-lt-mul, le-of-eq, le-of-suc-le-suc, le-trans, mul-comm, mod-lt}
 use native.Mathlib.Omega.{arith}
 use mathlib.Core.Path.{_≡_, sym, ap, ap₂, _∙_}
 use mathlib.Core.List.{List, [], _∷_}
 use borrow.Author.Tests.{ltb-false, le-ltb}
+use lib.Arith.{digits-lt}
 use lib.Dec.{ltb, ltb→lt}
 use lib.Ieee.{add, sub, mul, ofInt, lt, le}
 use lib.ListN.{length, getD, take}
@@ -103,7 +104,7 @@ bits-pos m h = ltb→lt 0 (carrierBits m) (at-each 3 (λ k. ltb 0 (carrierBits k
 
 -- item j of carrier c is within the items of all carriers
 inside : (n c j carriers : ℕ) → c < carriers → j < n → n * c + j < n * carriers
-inside n c j carriers h l = omega (arith, mul-le-mul-left n h, mul-suc n c)
+inside n c j carriers h l = rw (mul-comm n c, mul-comm n carriers) (digits-lt h l)
 
 -- item j of carrier c comes back
 pub carrier-back : (m : ℕ) (d : ℕ → ℕ) (c j : ℕ) → m < 3 → j < carrierBits m → Binary (carrierBits m) (λ k. d (carrierBits m * c + k))

@@ -24,7 +24,7 @@ pub data Reading : Type 0 where
   lost : Reading
 
 -- the erasure width is this part of f: a coordinate no further than that from a threshold (zero, and ±2f of 16QAM) is lost.
--- The part is 0, so the thresholds alone are
+-- The part is 0, so only the thresholds are lost.
 abbrev pub erasureFraction : Float
 erasureFraction = fin false 0 (pos 0)
 

@@ -26,7 +26,7 @@ const QPSK_FACTOR: f64 = QPSK_NUMERATOR as f64 / 9007199254740992.0;
 
 const QAM_FACTOR: f64 = QAM_NUMERATOR as f64 / 18014398509481984.0;
 
-// The erasure width, as a part of the factor: a coordinate no further than that from a threshold is lost. It is 0, so the thresholds alone are.
+// The erasure width, as a part of the factor: a coordinate no further than that from a threshold is lost. It is 0, so only the thresholds are lost.
 const ERASURE_FRACTION: f64 = 0.0;
 
 // About ±2f, 16QAM loses the sizes from LOWER to UPPER.
@@ -36,11 +36,13 @@ const LOWER: f64 = 2.0 * QAM_FACTOR - QAM_ERASURE;
 
 const UPPER: f64 = 2.0 * QAM_FACTOR + QAM_ERASURE;
 
+// A point: its I and Q coordinates.
 pub struct Point {
     pub i: f64,
     pub q: f64,
 }
 
+// What mapping answers.
 pub enum Mapped {
     At(Point),
     Refused(Refusal),
@@ -66,6 +68,7 @@ pub struct Pair {
     pub second: u8,
 }
 
+// The factor f of a modulation.
 fn factor_of(modulation: u8) -> f64
     ensures { λ r. ⌜ r ≡ factorOf modulation ⌝ }
 {
@@ -136,6 +139,7 @@ pub fn map(modulation: u8, d0: u8, d1: u8, d2: u8, d3: u8) -> Mapped
     Mapped::At(point_of(modulation, &all[..n]))
 }
 
+// The erasure width of a modulation.
 fn erasure_width(modulation: u8) -> f64
     ensures { λ r. ⌜ r ≡ erasureWidth modulation ⌝ }
 {

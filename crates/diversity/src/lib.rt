@@ -22,6 +22,7 @@ pub struct SubCarrier(pub usize);
 // A place in a band's usable list (paper 01's term): place 0 is the band's first sub-carrier.
 pub struct Place(pub usize);
 
+// What the two conversions answer.
 pub enum PlaceOf {
     At(Place),
     Refused(Refusal),
@@ -34,6 +35,7 @@ pub enum SubCarrierOf {
 
 const BANDS: usize = 2;
 
+// By band: its first and its last sub-carrier.
 const FIRST: [usize; 2] = [80, 100];
 
 const LAST: [usize; 2] = [490, 230];
@@ -96,8 +98,10 @@ pub fn sub_carrier_of(band: usize, p: Place) -> SubCarrierOf
 
 // ---- copies
 
+// By band: its frame-control symbols.
 const SYMBOLS: [usize; 2] = [4, 12];
 
+// The offset of each symbol.
 const OFFSETS: [u8; 12] = [0, 192, 160, 96, 144, 80, 48, 240, 24, 184, 136, 40];
 
 // A band's frame-control symbols.

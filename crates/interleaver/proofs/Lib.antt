@@ -1,3 +1,4 @@
+-- What the proofs of `interleaver` share, and its theorems. Assumes nothing.
 pub mod PassLaws
 pub mod SourceLaws
 pub mod LayoutLaws

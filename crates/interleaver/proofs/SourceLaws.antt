@@ -48,13 +48,11 @@ whole-apart i j n b = omega arith
 -- the parity row in either order
 pub row-continuous : (L : Layout) (p : ℕ) → L .continuous ≡ true → parityRow L p ≡ continuousRow (L .parity) (L .step) (L .offset) p
 unfolding parityRow
-row-continuous L p e =
-    ap (λ (b : Bool). cond b (continuousRow (L .parity) (L .step) (L .offset) p) (movedRow (L .parity) (L .offset) (passRow (L .parity) (L .step) p))) e
+row-continuous L p e = rw e
 
 pub row-moved : (L : Layout) (p : ℕ) → L .continuous ≡ false → parityRow L p ≡ movedRow (L .parity) (L .offset) (passRow (L .parity) (L .step) p)
 unfolding parityRow
-row-moved L p e =
-    ap (λ (b : Bool). cond b (continuousRow (L .parity) (L .step) (L .offset) p) (movedRow (L .parity) (L .offset) (passRow (L .parity) (L .step) p))) e
+row-moved L p e = rw e
 
 module _ (L : Layout) (S : Sound L) where
   pub parity-permutes : Permutes (L .parity) (parityRow L)
@@ -97,13 +95,11 @@ module _ (L : Layout) (S : Sound L) where
 
   pub bit-data : (n c : ℕ) → isParity L n ≡ false → nibbleBit L n c ≡ c * L .rows + dataRow L (dataPlace L n)
   unfolding nibbleBit
-  bit-data n c e =
-      ap (λ (b : Bool). cond b (L .rows * 4 + (c * L .parity + parityRow L (groupOf L n))) (c * L .rows + dataRow L (dataPlace L n))) e
+  bit-data n c e = rw e
 
   pub bit-parity : (n c : ℕ) → isParity L n ≡ true → nibbleBit L n c ≡ L .rows * 4 + (c * L .parity + parityRow L (groupOf L n))
   unfolding nibbleBit
-  bit-parity n c e =
-      ap (λ (b : Bool). cond b (L .rows * 4 + (c * L .parity + parityRow L (groupOf L n))) (c * L .rows + dataRow L (dataPlace L n))) e
+  bit-parity n c e = rw e
 
   module _ (n : ℕ) (h : n < L .rows + L .parity) where
     data-row-lt : isParity L n ≡ false → dataRow L (dataPlace L n) < L .rows

@@ -1,3 +1,4 @@
+-- What the contracts and the theorems of `interleaver` cite. Assumes nothing.
 pub mod Rows
 pub mod Layouts
 pub mod Source

@@ -1,1 +1,2 @@
+-- The laws of what `text` defines. Assumes nothing.
 pub mod TextLaws

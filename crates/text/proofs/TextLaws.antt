@@ -2,7 +2,7 @@
 use mathlib.Core.Path.{_≡_, refl, sym, ap, _∙_}
 use mathlib.Core.Bool.{true, false}
 use mathlib.Core.List.{List, [], _∷_, _++_, append-assoc}
-use Prim.Native.Nat.{ℕ, zero, suc, _+_, _-_, _*_, _/_, _%_, _^_, _≤_, _<_}
+use Prim.Native.Nat.{ℕ, suc, _+_, _-_, _/_, _%_, _^_, _≤_, _<_}
 use native.Mathlib.Decide.{decLt, ℕ-discrete}
 use native.Mathlib.Nat.{div-lt-iff-lt-mul, div-div-eq-div-mul, pow-suc, pow-le-pow-right, one-mul}
 use native.Mathlib.Numerals.{add-one}
@@ -12,7 +12,7 @@ use lib.ListN.{length, set, take, drop, getD, length-append, length-drop}
 use lib.Seq.{paste, paste-suc, take-length, take-all, take-at, drop-at, length-take-le, drop-drop, getD-drop, getD-set-same, getD-set-other}
 use borrow.Author.Tests.{lt-ltb, le-ltb}
 use Rattle.bits.specs.Lists.{tabulate, lowest}
-use Rattle.bits.proofs.ListLaws.{lowest-here, lowest-none, lowest-le, tabulate-of, tabulate-ext, length-tabulate, getD-tabulate}
+use Rattle.bits.proofs.ListLaws.{lowest-here, lowest-none, lowest-le, tabulate-of, length-tabulate, getD-tabulate}
 use Rattle.text.specs.Text.{places, decimal, binary, line, appended}
 
 -- ---- decimal digits
@@ -130,24 +130,25 @@ pub appended-paste : (buf : List ℕ) (at : ℕ) (s now : List ℕ) (i : ℕ) �
 unfolding appended
 appended-paste buf at s now i e h = e ∙ rw (h, take-length)
 
-pub length-appended : (buf : List ℕ) (at : ℕ) (s : List ℕ) → at + length s ≤ length buf → length (appended buf at s) ≡ length buf
-unfolding appended
-length-appended buf at s h =
-    let l : length (take at buf) ≡ at = length-take-le at buf (omega arith) in
-    simp (length-append, length-drop, l) (omega arith)
+module _ (buf : List ℕ) (at : ℕ) (s : List ℕ) (h : at + length s ≤ length buf) where
+  length-before : length (take at buf) ≡ at
+  length-before = length-take-le at buf (omega arith)
 
--- the text so far, and what follows
-pub take-appended : (buf : List ℕ) (at : ℕ) (s : List ℕ) → at + length s ≤ length buf → take (at + length s) (appended buf at s) ≡ take at buf ++ s
-unfolding appended
-take-appended buf at s h =
-    let l : length (take at buf) ≡ at = length-take-le at buf (omega arith) in
-    take-at (take at buf ++ s) (drop (at + length s) buf) (at + length s) (simp (length-append, l))
+  length-after : length (take at buf ++ s) ≡ at + length s
+  length-after = simp (length-append, length-before)
 
-pub drop-appended : (buf : List ℕ) (at : ℕ) (s : List ℕ) → at + length s ≤ length buf → drop (at + length s) (appended buf at s) ≡ drop (at + length s) buf
-unfolding appended
-drop-appended buf at s h =
-    let l : length (take at buf) ≡ at = length-take-le at buf (omega arith) in
-    drop-at (take at buf ++ s) (drop (at + length s) buf) (at + length s) (simp (length-append, l))
+  pub length-appended : length (appended buf at s) ≡ length buf
+  unfolding appended
+  length-appended = simp (length-append, length-drop, length-before) (omega arith)
+
+  -- the text so far, and what follows
+  pub take-appended : take (at + length s) (appended buf at s) ≡ take at buf ++ s
+  unfolding appended
+  take-appended = take-at (take at buf ++ s) (drop (at + length s) buf) (at + length s) length-after
+
+  pub drop-appended : drop (at + length s) (appended buf at s) ≡ drop (at + length s) buf
+  unfolding appended
+  drop-appended = drop-at (take at buf ++ s) (drop (at + length s) buf) (at + length s) length-after
 
 -- one text and then another is both appended
 pub appended-twice : (buf : List ℕ) (at : ℕ) (s t : List ℕ) → at + length s + length t ≤ length buf

@@ -1,4 +1,4 @@
-// Text in ASCII, made in a buffer from the front: words, decimal and binary digits, lines.
+// Text in ASCII, made in a buffer from the front: words, decimal digits and lines.
 //
 // Internal: nothing here is a public entry. `at` is where the text so far ends; each function returns where it ends then.
 ghost use mathlib.Core.Path.{_≡_};

@@ -1,3 +1,4 @@
+-- What the proofs of `turbo` share, and its theorems. Assumes nothing.
 pub mod RingLaws
 pub mod InterleaveLaws
 pub mod PunctureLaws

@@ -1,3 +1,4 @@
+-- What the contracts and the theorems of `turbo` cite. Assumes nothing.
 pub mod Pairs
 pub mod Encoder
 pub mod Interleave

@@ -156,7 +156,7 @@ const STARTS: [u16; 133] = [
 
 const ENDS: [usize; 6] = [0, 8, 26, 60, 93, 133];
 
-// The rows of M.
+// The three rows of M, by kind.
 const ROW1: [u8; 5] = [1, 1, 3, 5, 1];
 
 const ROW2: [u8; 5] = [5, 5, 4, 7, 5];

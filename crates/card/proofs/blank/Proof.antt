@@ -2,7 +2,6 @@
 use mathlib.Core.Path.{refl}
 use native.Mathlib.Omega.{arith}
 use Rattle.card.specs.Text.{drafted}
-use borrow.Author.Needs.{needs}
 use Rattle.card.proofs.blank.Statement.{statement}
 use Rattle.card.proofs.blank.Tie as tie
 

@@ -1,6 +1,5 @@
 -- `card::is_versioned` meets its contract. Assumes nothing.
 use borrow.Author.Tests.{eq-eqb, ne-eqb}
-use borrow.Author.Needs.{needs}
 use Rattle.card.proofs.is_versioned.Statement.{statement}
 use Rattle.card.proofs.is_versioned.Tie as tie
 

@@ -1,5 +1,5 @@
 -- `card::mode_lines` meets its contract: five lines, one behind the other. Assumes nothing.
-use mathlib.Core.Path.{_≡_, refl, _∙_}
+use mathlib.Core.Path.{refl}
 use native.Mathlib.Omega.{arith}
 use Rattle.card.specs.Text.{modeLines}
 use Rattle.card.proofs.DraftLaws.{holds-as}

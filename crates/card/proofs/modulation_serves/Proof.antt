@@ -1,6 +1,5 @@
 -- `card::modulation_serves` meets its contract. Assumes nothing.
 use borrow.Author.Tests.{eq-eqb, ne-eqb}
-use borrow.Author.Needs.{needs}
 use Rattle.card.proofs.modulation_serves.Statement.{statement}
 use Rattle.card.proofs.modulation_serves.Tie as tie
 

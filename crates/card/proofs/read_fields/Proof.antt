@@ -1,5 +1,5 @@
 -- `card::read_fields` meets its contract: each return is a row of its table. Assumes nothing.
-use mathlib.Core.Path.{_≡_, sym, ap, _∙_}
+use mathlib.Core.Path.{sym, ap, _∙_}
 use denote.Ref.{now}
 use borrow.Author.Tests.{lt-ltb, le-ltb}
 use Rattle.card.specs.Entries.{cardRead}

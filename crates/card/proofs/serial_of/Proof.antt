@@ -2,7 +2,6 @@
 use mathlib.Core.Path.{_≡_}
 use Prim.Native.Nat.{_+_, _*_, _-_, _≤_}
 use native.Mathlib.Omega.{arith}
-use lib.ListN.{length}
 use Rattle.bits.specs.Bits.{field, pack}
 use Rattle.card.proofs.CardLaws.{serial-next, serial-lt}
 use borrow.Author.Needs.{needs}

@@ -1,6 +1,6 @@
 -- `text::places_of` meets its contract. The invariant: `rest` is n without its last k digits, and k digits were not too many. Assumes nothing.
 use mathlib.Core.Path.{_≡_, refl}
-use Prim.Native.Nat.{_/_, _^_, _<_}
+use Prim.Native.Nat.{_/_, _^_}
 use native.Mathlib.Omega.{arith}
 use Rattle.text.proofs.TextLaws.{Tried, shorter, tried-small, tried-next, tried-all}
 use borrow.Author.Needs.{needs}
