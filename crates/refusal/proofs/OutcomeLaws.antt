@@ -146,3 +146,7 @@ refused-outcome rows rest d r out a made e = refused-first rows rest d r (λ x. 
 pub passed-outcome : {A B C : Type 0} (rows rest : List Row) (d c : C) (out : B) (a : A) (made : B)
     → firstApplicable rows refusal (done d) ≡ done c → settled (rows ++ rest) out a made ≡ settled rest out a made
 passed-outcome rows rest d c out a made e = passed-first rows rest d c (λ x. record { report = refusal x; out = out }) (record { report = done a; out = made }) e
+
+-- rows that come first and do not apply
+pub none-outcome : {A B : Type 0} (rows rest : List Row) (out : B) (a : A) (made : B) → NoneApplies rows → settled (rows ++ rest) out a made ≡ settled rest out a made
+none-outcome rows rest out a made none = none-first rows rest (λ x. record { report = refusal x; out = out }) (record { report = done a; out = made }) none

@@ -1,0 +1,4 @@
+pub mod Extra
+pub mod CodingLaws
+pub mod RecoveryLaws
+pub mod BufferLaws
