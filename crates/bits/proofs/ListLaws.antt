@@ -1,6 +1,6 @@
 -- Laws of lists given by an index function, of buffers written from the front, and of searches. Assumes nothing.
 use mathlib.Core.Path.{_≡_, refl, sym, ap, _∙_}
-use mathlib.Core.Bool.{Bool, true, false, cond}
+use mathlib.Core.Bool.{Bool, true, false, cond, true≢false}
 use mathlib.Core.List.{List, [], _∷_, _++_, append-assoc, append-nil}
 use mathlib.Core.Logic.{_⊎_, inl, inr}
 use Prim.Native.Nat.{ℕ, zero, suc, _+_, _-_, _≤_, _<_}
@@ -86,6 +86,11 @@ module _ {A : Type 0} where
       ap (λ (k : ℕ). getD (tabulate n f ++ drop n out) k d) (sym e) ∙ getD-append-add (tabulate n f) (drop n out) (i - n) d
       ∙ getD-drop n out (i - n) d ∙ ap (λ (k : ℕ). getD out k d) z
 
+  -- the part of a buffer that is written
+  pub take-written : (n : ℕ) (f : ℕ → A) (out : List A) → take n (written n f out) ≡ tabulate n f
+  unfolding written
+  take-written n f out = take-at (tabulate n f) (drop n out) n (length-tabulate n f)
+
   -- a list that has f's elements below n and the old ones from n on
   pub written-of : (n : ℕ) (f : ℕ → A) (d : A) (out now : List A) → n ≤ length out → length now ≡ length out
       → ((i : ℕ) → i < n → getD now i d ≡ f i) → ((i : ℕ) → n ≤ i → getD now i d ≡ getD out i d) → now ≡ written n f out
@@ -121,7 +126,7 @@ module _ {A : Type 0} where
       none = drop-of-length-le (drop n now) (le-of-eq (length-drop n now))
 
       front : take n (tabulate n f ++ drop n out) ≡ tabulate n f
-      front = take-at (tabulate n f) (drop n out) n (length-tabulate n f)
+      front = take-written n f out
 
       back : drop n (tabulate n f ++ drop n out) ≡ drop n out
       back = drop-at (tabulate n f) (drop n out) n (length-tabulate n f)
@@ -200,6 +205,10 @@ lowest-le (suc n) t = go (t zero) (lowest-le n (λ j. t (suc j)))
     go : (b : Bool) → lowest n (λ j. t (suc j)) ≤ n → cond b zero (suc (lowest n (λ j. t (suc j)))) ≤ suc n
     go true ih = omega arith
     go false ih = omega arith
+
+-- a search goes no further than to a number at which the test holds
+pub lowest-up-to : (n : ℕ) (t : ℕ → Bool) (k : ℕ) → t k ≡ true → lowest n t ≤ k
+lowest-up-to n t k e = lt-cases k (lowest n t) (λ l. absurd (true≢false (sym e ∙ lowest-below n t k l))) (λ l. l)
 
 pub lowest-ext : (n : ℕ) (t u : ℕ → Bool) → ((k : ℕ) → k < n → t k ≡ u k) → lowest n t ≡ lowest n u
 unfolding lowest

@@ -1,24 +1,63 @@
 -- The bench checks of paper 01 that are marked P: what the rules give beside what the paper prints, under one claim. Assumes nothing.
+use mathlib.Core.Bool.{Bool}
 use mathlib.Core.List.{List, [], _∷_}
 use mathlib.Core.Path.{_≡_, refl}
 use Prim.{Unit}
-use Prim.Native.Nat.{ℕ}
-use Rattle.bits.specs.Bits.{bitOf, pack, field}
+use Prim.Native.Nat.{ℕ, _+_, _-_, _*_}
+use Rattle.bits.specs.Bits.{bitOf, pack, byteOf, field}
+use Rattle.bits.specs.Sums.{sum, count}
 use Rattle.refusal.specs.Report.{Report, done, refused}
 use Rattle.card.specs.declared.Card.{Card}
 use Rattle.card.specs.Card.{fieldsOf, cardOf}
 use Rattle.card.specs.Entries.{definedMode, readCard}
+use Rattle.scrambler.specs.Scrambler.{feedback, shifted, afterShifts, scramblerBit, allOnes}
+use Rattle.turbo.specs.Encoder.{plus, startOf}
+use Rattle.turbo.specs.Interleave.{placeBy, place}
+use Rattle.interleaver.specs.Source.{column}
+use Rattle.diversity.specs.Bands.{offsets, carriers, carrierCount, itemCount}
+use Rattle.diversity.specs.Lanes.{laneBit, rides, laneOf}
+use Rattle.diversity.specs.Votes.{copies}
 
 -- a report of a card as numbers: 0 and its fields, or the refusal and its values
 abbrev numbers : Report Card → List ℕ
 numbers (done c) = 0 ∷ fieldsOf c
 numbers (refused n v w) = n ∷ v ∷ w ∷ []
 
+-- the bits on lanes I and Q at a place of a symbol, counted from 1
+abbrev lanesAt : ℕ → ℕ → ℕ → List ℕ
+lanesAt band symbol c = let n = 2 * ((symbol - 1) * carriers band + c) in laneOf band n ∷ laneOf band (n + 1) ∷ []
+
+-- the columns that the four bits of nibble n of the joined stream come from, as they go out
+abbrev turnOf : ℕ → List ℕ
+turnOf n = column n 0 ∷ column n 1 ∷ column n 2 ∷ column n 3 ∷ []
+
+-- how many lanes of a band carry a coded bit
+abbrev copiesOf : ℕ → ℕ → ℕ
+copiesOf band b = copies (itemCount band) (rides (laneOf band)) b
+
 -- what the rule gives, and what the paper prints
 abbrev pub checks : List (List ℕ × List ℕ)
 checks =
+    -- P1: the first sixteen scrambler bits
+    (byteOf (scramblerBit allOnes) 0 ∷ byteOf (scramblerBit allOnes) 1 ∷ [], 0x1C ∷ 0x4E ∷ [])
+    -- P2: size 16, I(0), I(8) and I(63)
+    ∷ (place 0 0 ∷ place 0 8 ∷ place 0 63 ∷ [], 53 ∷ 45 ∷ 26 ∷ [])
+    -- P3: size 72, I(18)
+    ∷ (place 1 18 ∷ [], 271 ∷ [])
+    -- P4 and P5: SN 100 at sizes 16 and 136
+    ∷ (startOf 0 0b100 ∷ [], 0b001 ∷ [])
+    ∷ (startOf 2 0b100 ∷ [], 0b011 ∷ [])
+    -- P6: nibble 2 goes out b3 b0 b1 b2, and nibble 8 unturned
+    ∷ (turnOf 2, 3 ∷ 0 ∷ 1 ∷ 2 ∷ [])
+    ∷ (turnOf 8, 0 ∷ 1 ∷ 2 ∷ 3 ∷ [])
+    -- P7 and P8: band 0, symbol 2 at place 64, and symbol 1 at place 410
+    ∷ (lanesAt 0 2 64, 0 ∷ 128 ∷ [])
+    ∷ (lanesAt 0 1 410, 154 ∷ 26 ∷ [])
+    -- P9 and P10: copies on bands 0 and 1
+    ∷ (copiesOf 0 0 ∷ copiesOf 0 27 ∷ [], 13 ∷ 12 ∷ [])
+    ∷ (copiesOf 1 0 ∷ copiesOf 1 3 ∷ [], 13 ∷ 12 ∷ [])
     -- P11: the example card
-    (
+    ∷ (
       numbers (readCard (0x12 ∷ 0x58 ∷ 0x8E ∷ 0x00 ∷ 0x20 ∷ 0x00 ∷ 0x00 ∷ 0x00 ∷ 0x00 ∷ 0x00 ∷ 0x01 ∷ [])),
       0 ∷ 1 ∷ 0 ∷ 4 ∷ 1 ∷ 1 ∷ 0b10001000111 ∷ 0 ∷ 9_007_199_254_740_993 ∷ [],
     )
@@ -30,5 +69,5 @@ Agree [] = Unit {0}
 Agree (row ∷ rows) = (row .0 ≡ row .1) × Agree rows
 
 pub checks-agree : Agree checks
-unfolding readCard cardOf definedMode field pack bitOf
-checks-agree = (refl, tt)
+unfolding readCard cardOf definedMode field pack byteOf bitOf feedback shifted afterShifts scramblerBit startOf place offsets carriers carrierCount itemCount laneBit rides copies sum count placeBy plus
+checks-agree = (refl, (refl, (refl, (refl, (refl, (refl, (refl, (refl, (refl, (refl, (refl, (refl, tt))))))))))))

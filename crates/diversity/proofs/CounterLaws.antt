@@ -1,6 +1,6 @@
 -- Laws of the counters: one item more, a symbol more, and the majority that a counter tells. Assumes nothing.
 use mathlib.Core.Path.{_≡_, refl, sym, ap, ap₂, _∙_}
-use mathlib.Core.Bool.{Bool, true, false, cond}
+use mathlib.Core.Bool.{Bool, true, false, cond, _&&_}
 use mathlib.Core.List.{List}
 use Prim.Native.Nat.{ℕ, _+_, _-_, _≤_, _<_}
 use native.Mathlib.Omega.{arith}
@@ -9,7 +9,8 @@ use lib.ListN.{getD, length, set, take, drop, replicate, length-replicate, getD-
 use borrow.Author.Tests.{eq-eqb, ne-eqb, ltb-true, ltb-false, lt-ltb, le-ltb}
 use Rattle.bits.specs.Lists.{tabulate}
 use Rattle.bits.proofs.ListLaws.{length-tabulate, getD-tabulate, tabulate-of, tabulate-ext, tabulate-set}
-use Rattle.bits.proofs.SumLaws.{count-next, count-le}
+use Rattle.bits.specs.Sums.{count}
+use Rattle.bits.proofs.SumLaws.{count-next, count-le, count-ext}
 use Rattle.diversity.specs.Votes.{votes, majority, decided}
 use Rattle.diversity.specs.Lanes.{rides}
 use Rattle.diversity.specs.Counters.{counted, Room}
@@ -24,40 +25,40 @@ votes-none : (on : ℕ → ℕ → Bool) (items : List ℕ) (b v : ℕ) → vote
 votes-none on items b v = omega (arith, votes-le 0 on items b v)
 
 -- one item more goes to the bit that it carries, and to no other
-votes-here : (lane : ℕ → ℕ) (items : List ℕ) (n v : ℕ)
-    → votes (n + 1) (rides lane) items (lane n) v ≡ votes n (rides lane) items (lane n) v + cond (eqb (getD items n 0) v) 1 0
-unfolding votes rides
-votes-here lane items n v = count-next n _ ∙ rw (eq-eqb (lane n) (lane n) refl)
+votes-here : (on : ℕ → ℕ → Bool) (items : List ℕ) (n b v : ℕ) → on n b ≡ true
+    → votes (n + 1) on items b v ≡ votes n on items b v + cond (eqb (getD items n 0) v) 1 0
+unfolding votes
+votes-here on items n b v e = count-next n _ ∙ rw e
 
-votes-there : (lane : ℕ → ℕ) (items : List ℕ) (n b v : ℕ) → (b ≡ lane n → ⊥) → votes (n + 1) (rides lane) items b v ≡ votes n (rides lane) items b v
-unfolding votes rides
-votes-there lane items n b v d = count-next n _ ∙ rw (ne-eqb (lane n) b (λ e. d (sym e))) (omega arith)
+votes-there : (on : ℕ → ℕ → Bool) (items : List ℕ) (n b v : ℕ) → on n b ≡ false → votes (n + 1) on items b v ≡ votes n on items b v
+unfolding votes
+votes-there on items n b v e = count-next n _ ∙ rw e (omega arith)
 
 -- ---- a counter
 
-module _ (n : ℕ) (on : ℕ → ℕ → Bool) (items counters now : List ℕ) (h : now ≡ counted n on items counters) where
-  pub counter-at : (b : ℕ) → b < 256 → getD now b 0 ≡ getD counters b 0 + votes n on items b 1 - votes n on items b 0
+module _ (B n : ℕ) (on : ℕ → ℕ → Bool) (items counters now : List ℕ) (h : now ≡ counted B n on items counters) where
+  pub counter-at : (b : ℕ) → b < B → getD now b 0 ≡ getD counters b 0 + votes n on items b 1 - votes n on items b 0
   unfolding counted
-  counter-at b l = rw h (getD-tabulate 256 _ b 0 l)
+  counter-at b l = rw h (getD-tabulate B _ b 0 l)
 
   -- there is room left
-  pub room-after : (m : ℕ) → Room (n + m) counters → Room m now
+  pub room-after : (m : ℕ) → Room B (n + m) counters → Room B m now
   unfolding counted
   room-after m room =
       record {
-        long = ap length h ∙ length-tabulate 256 _;
+        long = ap length h ∙ length-tabulate B _;
         each = λ b l.
             let r = room .each b l in
             (omega (arith, counter-at b l, votes-le n on items b 0), omega (arith, counter-at b l, votes-le n on items b 1));
       }
 
   -- m items more, which are counted by themselves
-  pub counted-append : (m : ℕ) (part : ℕ → ℕ → Bool) (later : List ℕ) → ((j : ℕ) → j < m → (b : ℕ) → part j b ≡ on (n + j) b) → Room (n + m) counters
-      → later ≡ counted m part (take (length items - n) (drop n items)) now → later ≡ counted (n + m) on items counters
+  pub counted-append : (m : ℕ) (part : ℕ → ℕ → Bool) (later : List ℕ) → ((j : ℕ) → j < m → (b : ℕ) → part j b ≡ on (n + j) b) → Room B (n + m) counters
+      → later ≡ counted B m part (take (length items - n) (drop n items)) now → later ≡ counted B (n + m) on items counters
   unfolding counted
-  counted-append m part later same room e = e ∙ rw (part-to-end items n) (tabulate-ext 256 _ _ each)
+  counted-append m part later same room e = e ∙ rw (part-to-end items n) (tabulate-ext B _ _ each)
     where
-      each : (b : ℕ) → b < 256
+      each : (b : ℕ) → b < B
           → getD now b 0 + votes m part (drop n items) b 1 - votes m part (drop n items) b 0
           ≡ getD counters b 0 + votes (n + m) on items b 1 - votes (n + m) on items b 0
       each b l =
@@ -70,53 +71,72 @@ module _ (n : ℕ) (on : ℕ → ℕ → Bool) (items counters now : List ℕ) (
             votes-le (n + m) on items b 0,
           )
 
-pub counted-none : (m : ℕ) (on : ℕ → ℕ → Bool) (items counters : List ℕ) → Room m counters → counters ≡ counted 0 on items counters
+pub counted-none : (B m : ℕ) (on : ℕ → ℕ → Bool) (items counters : List ℕ) → Room B m counters → counters ≡ counted B 0 on items counters
 unfolding counted
-counted-none m on items counters room =
-    tabulate-of 256 _ 0 counters (room .long) (λ b l. omega (arith, votes-none on items b 0, votes-none on items b 1))
+counted-none B m on items counters room =
+    tabulate-of B _ 0 counters (room .long) (λ b l. omega (arith, votes-none on items b 0, votes-none on items b 1))
 
-pub counted-all : (n m : ℕ) (on : ℕ → ℕ → Bool) (items counters now : List ℕ)
-    → now ≡ counted n on items counters → n ≡ m → now ≡ counted m on items counters
-counted-all n m on items counters now h e = rw (← e) h
+pub counted-all : (B n m : ℕ) (on : ℕ → ℕ → Bool) (items counters now : List ℕ)
+    → now ≡ counted B n on items counters → n ≡ m → now ≡ counted B m on items counters
+counted-all B n m on items counters now h e = rw (← e) h
 
-pub room-less : (m k : ℕ) (counters : List ℕ) → m ≤ k → Room k counters → Room m counters
-room-less m k counters h room =
+-- the same items, which carry the same bits
+pub counted-ext : (B N : ℕ) (on part : ℕ → ℕ → Bool) (items other counters : List ℕ)
+    → ((j : ℕ) → j < N → (b : ℕ) → part j b ≡ on j b) → ((j : ℕ) → j < N → getD other j 0 ≡ getD items j 0)
+    → counted B N part other counters ≡ counted B N on items counters
+unfolding counted votes
+counted-ext B N on part items other counters same alike = tabulate-ext B _ _ (λ b l. ap₂ (λ (o z : ℕ). getD counters b 0 + o - z) (side b 1) (side b 0))
+  where
+    side : (b v : ℕ) → count N (λ n. part n b && eqb (getD other n 0) v) ≡ count N (λ n. on n b && eqb (getD items n 0) v)
+    side b v = count-ext N _ _ (λ j h. ap₂ (λ (c : Bool) (x : ℕ). c && eqb x v) (same j h b) (alike j h))
+
+pub room-less : (B m k : ℕ) (counters : List ℕ) → m ≤ k → Room B k counters → Room B m counters
+room-less B m k counters h room =
     record {
       long = room .long;
       each = λ b l. let r = room .each b l in (omega arith, omega arith);
     }
 
 -- after n items of m there is room for one more
-pub room-next : (n m : ℕ) (on : ℕ → ℕ → Bool) (items counters now : List ℕ) (b : ℕ)
-    → now ≡ counted n on items counters → n < m → Room m counters → b < 256
+pub room-next : (B n m : ℕ) (on : ℕ → ℕ → Bool) (items counters now : List ℕ) (b : ℕ)
+    → now ≡ counted B n on items counters → n < m → Room B m counters → b < B
     → (0 < getD now b 0) × (getD now b 0 < 65535)
-room-next n m on items counters now b h k room l =
-    let r = room-after n on items counters now h 1 (room-less (n + 1) m counters (omega arith) room) .each b l in
+room-next B n m on items counters now b h k room l =
+    let r = room-after B n on items counters now h 1 (room-less B (n + 1) m counters (omega arith) room) .each b l in
     (omega arith, omega arith)
 
--- an item's turn: the counter of its bit goes up for a one and down for a zero
-pub counted-next : (n : ℕ) (lane : ℕ → ℕ) (items counters now : List ℕ) (b x : ℕ)
-    → now ≡ counted n (rides lane) items counters → b < 256 → b ≡ lane n → Room (n + 1) counters
+-- an item's turn: the counter of the one bit that it carries goes up for a one and down for a zero
+pub counted-next : (B n : ℕ) (on : ℕ → ℕ → Bool) (items counters now : List ℕ) (b x : ℕ)
+    → now ≡ counted B n on items counters → b < B → on n b ≡ true → ((k : ℕ) → (k ≡ b → ⊥) → on n k ≡ false) → Room B (n + 1) counters
     → x ≡ getD now b 0 + cond (eqb (getD items n 0) 1) 1 0 - cond (eqb (getD items n 0) 0) 1 0
-    → set now b x ≡ counted (n + 1) (rides lane) items counters
+    → set now b x ≡ counted B (n + 1) on items counters
 unfolding counted
-counted-next n lane items counters now b x h l e room g =
-    rw h (tabulate-set 256 b x _ _ l here (λ k d. ap₂ (λ (o z : ℕ). getD counters k 0 + o - z) (there k 1 d) (there k 0 d)))
+counted-next B n on items counters now b x h l e other room g =
+    rw h (tabulate-set B b x _ _ l here (λ k d. ap₂ (λ (o z : ℕ). getD counters k 0 + o - z) (there k 1 d) (there k 0 d)))
   where
-    there : (k v : ℕ) → (k ≡ b → ⊥) → votes (n + 1) (rides lane) items k v ≡ votes n (rides lane) items k v
-    there k v d = votes-there lane items n k v (λ q. d (q ∙ sym e))
+    there : (k v : ℕ) → (k ≡ b → ⊥) → votes (n + 1) on items k v ≡ votes n on items k v
+    there k v d = votes-there on items n k v (other k d)
 
-    here : getD counters b 0 + votes (n + 1) (rides lane) items b 1 - votes (n + 1) (rides lane) items b 0 ≡ x
+    here : getD counters b 0 + votes (n + 1) on items b 1 - votes (n + 1) on items b 0 ≡ x
     here =
         let r = room .each b l in
         omega (
           arith,
           g,
-          counter-at n (rides lane) items counters now h b l,
-          rw (← e) at (votes-here lane items n 0),
-          rw (← e) at (votes-here lane items n 1),
-          votes-le (n + 1) (rides lane) items b 0,
+          counter-at B n on items counters now h b l,
+          votes-here on items n b 0 e,
+          votes-here on items n b 1 e,
+          votes-le (n + 1) on items b 0,
         )
+
+-- the same where `lane` gives the bit that each item carries
+pub counted-lane : (B n : ℕ) (lane : ℕ → ℕ) (items counters now : List ℕ) (b x : ℕ)
+    → now ≡ counted B n (rides lane) items counters → b < B → b ≡ lane n → Room B (n + 1) counters
+    → x ≡ getD now b 0 + cond (eqb (getD items n 0) 1) 1 0 - cond (eqb (getD items n 0) 0) 1 0
+    → set now b x ≡ counted B (n + 1) (rides lane) items counters
+unfolding rides
+counted-lane B n lane items counters now b x h l e room g =
+    counted-next B n (rides lane) items counters now b x h l (eq-eqb (lane n) b (sym e)) (λ k d. ne-eqb (lane n) k (λ q. d (sym q ∙ sym e))) room g
 
 -- two tests of the same outcome
 same-test : (a b c d : ℕ) → (a < b → c < d) → (b ≤ a → d ≤ c) → ltb a b ≡ ltb c d
@@ -133,28 +153,28 @@ majority-from m zeros ones x h e =
     ap₂ (λ (t u : Bool). cond t 0 (cond u 1 2))
     (same-test x m ones zeros (λ l. omega arith) (λ l. omega arith)) (same-test m x zeros ones (λ l. omega arith) (λ l. omega arith))
 
-counter-decides : (N m : ℕ) (on : ℕ → ℕ → Bool) (items now : List ℕ) (b : ℕ)
-    → now ≡ counted N on items (replicate 256 m) → N ≤ m → b < 256
+pub counter-decides : (B N m : ℕ) (on : ℕ → ℕ → Bool) (items now : List ℕ) (b : ℕ)
+    → now ≡ counted B N on items (replicate B m) → N ≤ m → b < B
     → majority m (getD now b 0) ≡ decided N on items b
 unfolding decided
-counter-decides N m on items now b h k l =
+counter-decides B N m on items now b h k l =
     majority-from m (votes N on items b 0) (votes N on items b 1) (getD now b 0) (omega (arith, votes-le N on items b 0))
-    (counter-at N on items (replicate 256 m) now h b l ∙ ap (λ (x : ℕ). x + votes N on items b 1 - votes N on items b 0) (getD-replicate 256 b m 0 l))
+    (counter-at B N on items (replicate B m) now h b l ∙ ap (λ (x : ℕ). x + votes N on items b 1 - votes N on items b 0) (getD-replicate B b m 0 l))
 
 -- ---- counters that start at m
 
-pub room-even : (n m : ℕ) (counters : List ℕ) → counters ≡ replicate 256 m → n ≤ m → m + n < 65536 → Room n counters
-room-even n m counters e h k =
+pub room-even : (B n m : ℕ) (counters : List ℕ) → counters ≡ replicate B m → n ≤ m → m + n < 65536 → Room B n counters
+room-even B n m counters e h k =
     record {
-      long = rw e (length-replicate 256 m);
+      long = rw e (length-replicate B m);
       each = λ b l.
-          let start : getD counters b 0 ≡ m = rw e (getD-replicate 256 b m 0 l) in
+          let start : getD counters b 0 ≡ m = rw e (getD-replicate B b m 0 l) in
           (omega arith, omega arith);
     }
 
 -- all bits
-pub counters-decide : (N m : ℕ) (on : ℕ → ℕ → Bool) (items counters now r : List ℕ)
-    → counters ≡ replicate 256 m → now ≡ counted N on items counters → N ≤ m
-    → r ≡ tabulate 256 (λ b. majority m (getD now b 0)) → r ≡ tabulate 256 (decided N on items)
-counters-decide N m on items counters now r e h k g =
-    g ∙ tabulate-ext 256 _ _ (λ b l. counter-decides N m on items now b (rw e at h) k l)
+pub counters-decide : (B N m : ℕ) (on : ℕ → ℕ → Bool) (items counters now r : List ℕ)
+    → counters ≡ replicate B m → now ≡ counted B N on items counters → N ≤ m
+    → r ≡ tabulate B (λ b. majority m (getD now b 0)) → r ≡ tabulate B (decided N on items)
+counters-decide B N m on items counters now r e h k g =
+    g ∙ tabulate-ext B _ _ (λ b l. counter-decides B N m on items now b (rw e at h) k l)

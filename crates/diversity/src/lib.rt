@@ -175,10 +175,10 @@ pub fn copy_items(band: usize, coded: &[u8], out: &mut [u8])
 // ---- votes
 
 // Where a counter starts: half of what 16 bits hold.
-const MIDDLE: u16 = 32768;
+pub const MIDDLE: u16 = 32768;
 
 // A counter after one item: up for a one, down for a zero.
-fn moved(counter: u16, item: u8) -> u16
+pub fn moved(counter: u16, item: u8) -> u16
     requires { ⌜ (0 < counter) × (counter < 65535) ⌝ }
     ensures { λ r. ⌜ r ≡ counter + cond (eqb item 1) 1 0 - cond (eqb item 0) 1 0 ⌝ }
 {
@@ -202,8 +202,8 @@ fn count_item(bit: u8, item: u8, counters: &mut [u16; 256])
 
 // The votes of one symbol's items.
 fn count_symbol(carriers: usize, offset: u8, items: &[u8], counters: &mut [u16; 256])
-    requires { ⌜ (2 * carriers ≤ length (now items)) × (Room (2 * carriers) (now counters)) ⌝ }
-    ensures { λ _. ⌜ now (counters .exit) ≡ counted (2 * carriers) (rides (laneBit carriers (offset ∷ []))) (now (items .entry)) (now (counters .entry)) ⌝ }
+    requires { ⌜ (2 * carriers ≤ length (now items)) × (Room 256 (2 * carriers) (now counters)) ⌝ }
+    ensures { λ _. ⌜ now (counters .exit) ≡ counted 256 (2 * carriers) (rides (laneBit carriers (offset ∷ []))) (now (items .entry)) (now (counters .entry)) ⌝ }
 {
     let mut place: usize = 0;
     while place < carriers {
@@ -215,8 +215,8 @@ fn count_symbol(carriers: usize, offset: u8, items: &[u8], counters: &mut [u16; 
 
 // The votes of all items, symbol by symbol.
 fn count_symbols(carriers: usize, offsets: &[u8], items: &[u8], counters: &mut [u16; 256])
-    requires { ⌜ (carriers < 65536) × (2 * (length (now offsets) * carriers) ≤ length (now items)) × (Room (2 * (length (now offsets) * carriers)) (now counters)) ⌝ }
-    ensures { λ _. ⌜ now (counters .exit) ≡ counted (2 * (length (now (offsets .entry)) * carriers)) (rides (laneBit carriers (now (offsets .entry)))) (now (items .entry)) (now (counters .entry)) ⌝ }
+    requires { ⌜ (carriers < 65536) × (2 * (length (now offsets) * carriers) ≤ length (now items)) × (Room 256 (2 * (length (now offsets) * carriers)) (now counters)) ⌝ }
+    ensures { λ _. ⌜ now (counters .exit) ≡ counted 256 (2 * (length (now (offsets .entry)) * carriers)) (rides (laneBit carriers (now (offsets .entry)))) (now (items .entry)) (now (counters .entry)) ⌝ }
 {
     let run = 2 * carriers;
     let mut n: usize = 0;
@@ -229,7 +229,7 @@ fn count_symbols(carriers: usize, offsets: &[u8], items: &[u8], counters: &mut [
 }
 
 // The strict majority of two counts: 0, 1, or 2 where there is none.
-fn majority(zeros: u16, ones: u16) -> u8
+pub fn majority(zeros: u16, ones: u16) -> u8
     ensures { λ r. ⌜ r ≡ majorityOf zeros ones ⌝ }
 {
     if ones < zeros {

@@ -147,3 +147,15 @@ refused-outcome rows rest d r out a made e = refused-first rows rest d r (λ x. 
 pub passed-outcome : {A B C : Type 0} (rows rest : List Row) (d c : C) (out : B) (a : A) (made : B)
     → firstApplicable rows refusal (done d) ≡ done c → settled (rows ++ rest) out a made ≡ settled rest out a made
 passed-outcome rows rest d c out a made e = passed-first rows rest d c (λ x. record { report = refusal x; out = out }) (record { report = done a; out = made }) e
+
+-- rows that come first and do not apply
+pub none-outcome : {A B : Type 0} (rows rest : List Row) (out : B) (a : A) (made : B) → NoneApplies rows → settled (rows ++ rest) out a made ≡ settled rest out a made
+none-outcome rows rest out a made none = none-first rows rest (λ x. record { report = refusal x; out = out }) (record { report = done a; out = made }) none
+
+pub refused-report : {A C : Type 0} (rows rest : List Row) (d : C) (r : Refusal) (a : A)
+    → firstApplicable rows refusal (done d) ≡ refusal r → firstApplicable (rows ++ rest) refusal (done a) ≡ refusal r
+refused-report rows rest d r a e = refused-first rows rest d r refusal (done a) e
+
+pub passed-report : {A C : Type 0} (rows rest : List Row) (d c : C) (a : A)
+    → firstApplicable rows refusal (done d) ≡ done c → firstApplicable (rows ++ rest) refusal (done a) ≡ firstApplicable rest refusal (done a)
+passed-report rows rest d c a e = passed-first rows rest d c refusal (done a) e

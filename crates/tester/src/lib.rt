@@ -3,9 +3,18 @@
 // A call returns the number of paper 01's table and always stores what comes with it behind `value`: the answer's second half, and no
 // lent buffer. Each promise goes through the same outcome definition as the entry below it.
 use card::Card;
+use diversity::Place;
+use diversity::PlaceOf;
+use diversity::SubCarrier;
+use diversity::SubCarrierOf;
+use refusal::Answer;
+ghost use mathlib.Core.Path.{_≡_};
+ghost use Rattle.refusal.specs.Report.{answer};
+ghost use Rattle.constellation.specs.Entries.{mapOutcome, sliceOutcome, receivedOf};
+ghost use Rattle.diversity.specs.Units.{placeReport, subCarrierReport, placeOf, subCarrierOf};
 ghost use Rattle.card.specs.Entries.{readFields, writeCard};
 ghost use Rattle.card.specs.Text.{textCard};
-ghost use Rattle.tester.specs.Call.{Returned};
+ghost use Rattle.tester.specs.Call.{Reported, Returned};
 
 // The fields of a card: version, band, kind, rate, modulation, taps, spare, serial.
 #[no_mangle]
@@ -53,4 +62,76 @@ pub extern "C" fn hplc_card_text(card: &[u8], out: &mut [u8], value: &mut [u64; 
 {
     let answer = card::card_text(card, out);
     refusal::report(answer, value)
+}
+
+// The constellation point of some bits.
+#[no_mangle]
+pub extern "C" fn hplc_map(
+    modulation: u64,
+    bits: &[u8],
+    point: &mut [f64],
+    value: &mut [u64; 2],
+) -> u32
+    ensures { λ n. ⌜ Returned (mapOutcome modulation (now (bits .entry)) (now (point .entry))) n (now (value .exit)) (now (point .exit)) ⌝ }
+{
+    let answer = constellation::map_into(modulation, bits, point);
+    refusal::report(answer, value)
+}
+
+// The items that a received carrier gives.
+#[no_mangle]
+pub extern "C" fn hplc_slice(
+    modulation: u64,
+    heard: u64,
+    i: f64,
+    q: f64,
+    items: &mut [u8],
+    value: &mut [u64; 2],
+) -> u32
+    ensures { λ n. ⌜ Returned (sliceOutcome modulation (receivedOf heard i q) (now (items .entry))) n (now (value .exit)) (now (items .exit)) ⌝ }
+{
+    let answer = constellation::slice_into(modulation, heard, i, q, items);
+    refusal::report(answer, value)
+}
+
+// A place as an answer.
+fn place_answer(p: PlaceOf) -> Answer
+    ensures { λ r. ⌜ answer r ≡ placeReport p ⌝ }
+{
+    match p {
+        PlaceOf::At(place) => Answer::Done(place.0),
+        PlaceOf::Refused(r) => Answer::Refused(r),
+    }
+}
+
+// A sub-carrier as an answer.
+fn sub_carrier_answer(s: SubCarrierOf) -> Answer
+    ensures { λ r. ⌜ answer r ≡ subCarrierReport s ⌝ }
+{
+    match s {
+        SubCarrierOf::At(sub_carrier) => Answer::Done(sub_carrier.0),
+        SubCarrierOf::Refused(r) => Answer::Refused(r),
+    }
+}
+
+// The place of a sub-carrier in a band.
+#[no_mangle]
+pub extern "C" fn hplc_place_of_sub_carrier(
+    band: u64,
+    sub_carrier: u64,
+    value: &mut [u64; 2],
+) -> u32
+    ensures { λ n. ⌜ Reported (placeOf band «sub_carrier») n (now (value .exit)) ⌝ }
+{
+    let place = diversity::place_of(band as usize, SubCarrier(sub_carrier as usize));
+    refusal::report(place_answer(place), value)
+}
+
+// The sub-carrier at a place of a band.
+#[no_mangle]
+pub extern "C" fn hplc_sub_carrier_of_place(band: u64, place: u64, value: &mut [u64; 2]) -> u32
+    ensures { λ n. ⌜ Reported (subCarrierOf band place) n (now (value .exit)) ⌝ }
+{
+    let sub_carrier = diversity::sub_carrier_of(band as usize, Place(place as usize));
+    refusal::report(sub_carrier_answer(sub_carrier), value)
 }

@@ -15,7 +15,7 @@ use Rattle.diversity.proofs.count_symbols.Tie as tie
 abbrev Inv-loop : tie.InvT-loop
 Inv-loop carriers offsets items counters₀ run n₀ s₀ counters n s =
     (s ≤ length offsets) × (run ≡ 2 * carriers) × (n ≡ 2 * (s * carriers))
-    × (counters ≡ counted n (rides (laneBit carriers offsets)) items counters₀)
+    × (counters ≡ counted 256 n (rides (laneBit carriers offsets)) items counters₀)
 
 abbrev μ-loop : tie.MeasureT-loop
 μ-loop carriers offsets items counters₀ run n₀ s₀ counters n s = length offsets - s
@@ -32,7 +32,7 @@ mul-run : tie.Need-mul-run Inv-loop μ-loop
 mul-run c = search needs
 
 loop-holds : tie.Need-loop-holds Inv-loop μ-loop
-loop-holds c = (search needs, refl, omega arith, counted-none _ _ _ _ (c .before .before .pre .2))
+loop-holds c = (search needs, refl, omega arith, counted-none _ _ _ _ _ (c .before .before .pre .2))
 
 shared-slice-read-count-symbol : tie.Need-shared-slice-read-count-symbol Inv-loop μ-loop
 shared-slice-read-count-symbol c = search needs
@@ -51,7 +51,7 @@ count-symbol-requires c κs =
     let turn = c .before .before .before in
     let start = turn .before .before .before .before in (
       simp (length-take, length-drop) (omega (arith, fits turn)),
-      room-after _ _ _ _ _ (turn .before .loop .inv .3) _ (room-less _ _ _ (fits turn) (start .pre .2)),
+      room-after _ _ _ _ _ _ (turn .before .loop .inv .3) _ (room-less _ _ _ _ (fits turn) (start .pre .2)),
     )
 
 add-n : tie.Need-add-n Inv-loop μ-loop
@@ -72,12 +72,12 @@ loop-again c =
       search needs,
       refl,
       omega (arith, row-next (at .s) (args .carriers)),
-      counted-append _ _ _ _ _ (at .inv .3) _ _ _ (rides-symbol (args .carriers) (args .offsets .now) (at .s) (at .n) (at .inv .2))
-          (room-less _ _ _ (fits turn) (start .pre .2)) (c .count-symbol .ensures),
+      counted-append _ _ _ _ _ _ (at .inv .3) _ _ _ (rides-symbol (args .carriers) (args .offsets .now) (at .s) (at .n) (at .inv .2))
+          (room-less _ _ _ _ (fits turn) (start .pre .2)) (c .count-symbol .ensures),
     )
 
 returns : tie.Need-returns Inv-loop μ-loop
-returns c = counted-all _ _ _ _ _ _ (c .before .loop .inv .3) (rows-all _ _ _ _ (c .before .loop .inv .2) (omega arith))
+returns c = counted-all _ _ _ _ _ _ _ (c .before .loop .inv .3) (rows-all _ _ _ _ (c .before .loop .inv .2) (omega arith))
 
 pub count-symbols-spec : {M : Type 1} → statement M
 count-symbols-spec =

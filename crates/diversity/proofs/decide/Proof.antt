@@ -35,7 +35,7 @@ count-symbols-requires c κs =
     let few = items-below (start .args .band) (start .pre .0) in (
       omega (arith, carriers-below (start .args .band) (start .pre .0)),
       omega arith,
-      room-even _ middle _ (c .before .before .before .even-counters .ensures) (omega arith) (omega arith),
+      room-even _ _ middle _ (c .before .before .before .even-counters .ensures) (omega arith) (omega arith),
     )
 
 decide-counters-requires : tie.Need-decide-counters-requires
@@ -49,8 +49,8 @@ returns c =
     let size = lent .before .before .carriers in
     let even = lent .before .before .before .even-counters in
     let now = c .before .before .count-symbols .last .1 .1 .1 .0 in
-    counters-decide _ middle _ _ (even .result) now _ (even .ensures)
-    (as-band (λ N C os. now ≡ counted N (rides (laneBit C os)) (start .args .items .now) (even .result))
+    counters-decide _ _ middle _ _ (even .result) now _ (even .ensures)
+    (as-band (λ N C os. now ≡ counted 256 N (rides (laneBit C os)) (start .args .items .now) (even .result))
     (start .args .band) (count .result) (size .result) (start .pre .0) (count .ensures) (size .ensures) (c .before .before .count-symbols .ensures))
     (omega (arith, items-below (start .args .band) (start .pre .0))) (c .decide-counters .ensures)
 

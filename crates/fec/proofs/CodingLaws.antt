@@ -1,0 +1,71 @@
+-- Laws of the coded bits: how many there are, that they are bits, and which data bits they ask for. Assumes nothing.
+use mathlib.Core.Path.{_≡_, sym, ap, _∙_}
+use Prim.Native.Nat.{ℕ, _+_, _-_, _*_, _/_, _≤_, _<_}
+use native.Mathlib.Omega.{arith}
+use lib.Count.{ones, onesIn}
+use lib.ListN.{getD}
+use borrow.Author.Tests.{lt-ltb, le-ltb}
+use Rattle.bits.proofs.NumberLaws.{lt-cases}
+use Rattle.bits.proofs.BitLaws.{Binary}
+use Rattle.bits.proofs.RangeLaws.{agree₂, under}
+use Rattle.card.specs.Modes.{blockBytes}
+use Rattle.turbo.specs.Pairs.{pairCount}
+use Rattle.turbo.specs.Puncture.{row, keptCount}
+use Rattle.turbo.specs.Parity.{keptBit}
+use Rattle.turbo.proofs.ParityLaws.{kept-binary, kept-ext}
+use Rattle.turbo.proofs.PunctureLaws.{kept-count}
+use Rattle.interleaver.specs.Layouts.{Defined, groups}
+use Rattle.interleaver.specs.Source.{codedBits, source}
+use Rattle.interleaver.proofs.InterleaverLaws.{source-lt}
+use Rattle.fec.specs.Coding.{dataBits, sourceBit, codedBit}
+
+-- the longest block has 520 bytes
+pub few-bytes : (kind : ℕ) → kind < 5 → blockBytes kind < 521
+few-bytes = under 5 521 blockBytes tt
+
+-- the source bits below the data bits' number are data, and those from it on are parity
+module _ (kind rate taps : ℕ) (d : ℕ → ℕ) where
+  pub source-data : (k : ℕ) → k < dataBits kind → sourceBit kind rate taps d k ≡ d k
+  unfolding sourceBit
+  source-data k h = rw (lt-ltb k (dataBits kind) h)
+
+  pub source-kept : (s : ℕ) → dataBits kind ≤ s → sourceBit kind rate taps d s ≡ keptBit kind rate taps d (s - dataBits kind)
+  unfolding sourceBit
+  source-kept s h = rw (le-ltb s (dataBits kind) h)
+
+  pub source-parity : (i : ℕ) → sourceBit kind rate taps d (dataBits kind + i) ≡ keptBit kind rate taps d i
+  source-parity i =
+      let z : dataBits kind + i - dataBits kind ≡ i = omega arith in
+      source-kept (dataBits kind + i) (omega arith) ∙ ap (keptBit kind rate taps d) z
+
+module _ (kind rate : ℕ) (D : Defined kind rate) where
+  -- the coded bits are the data bits and the kept parity bits
+  pub coded-count : codedBits kind rate ≡ dataBits kind + keptCount kind rate
+  unfolding codedBits ones onesIn
+  coded-count =
+      agree₂ 5 2 (λ k r. (blockBytes k * 2 + blockBytes k * 2 / getD groups r 0) * 4) (λ k r. dataBits k + pairCount k / 8 * ones (row r)) tt
+      kind rate (D .kind-lt) (D .rate-lt)
+      ∙ ap (_+_ (dataBits kind)) (kept-count kind rate (D .kind-lt) (D .rate-lt))
+
+  -- coded bits of bits are bits
+  pub coded-binary : (taps : ℕ) (d : ℕ → ℕ) → Binary (dataBits kind) d → (i : ℕ) → codedBit kind rate taps d i < 2
+  unfolding codedBit
+  coded-binary taps d h i =
+      let s = source kind rate i in
+      lt-cases s (dataBits kind)
+      (λ l. rw (source-data kind rate taps d s l) (h s l))
+      (λ l. rw (source-kept kind rate taps d s l) (kept-binary kind rate taps d (s - dataBits kind)))
+
+  -- coded bits ask only for the data bits of the block
+  module _ (taps : ℕ) (d e : ℕ → ℕ) (same : (k : ℕ) → k < dataBits kind → d k ≡ e k) where
+    pub source-ext : (s : ℕ) → s < codedBits kind rate → sourceBit kind rate taps d s ≡ sourceBit kind rate taps e s
+    source-ext s h =
+        lt-cases s (dataBits kind)
+        (λ l. source-data kind rate taps d s l ∙ same s l ∙ sym (source-data kind rate taps e s l))
+        (λ l.
+        source-kept kind rate taps d s l ∙ kept-ext kind (D .kind-lt) d e same rate taps (s - dataBits kind) (omega (arith, coded-count))
+        ∙ sym (source-kept kind rate taps e s l))
+
+    pub coded-ext : (i : ℕ) → i < codedBits kind rate → codedBit kind rate taps d i ≡ codedBit kind rate taps e i
+    unfolding codedBit
+    coded-ext i h = source-ext (source kind rate i) (source-lt kind rate D i h)

@@ -1,0 +1,106 @@
+// Forward error correction of one block: from its bytes to its coded bits, and from decided coded bits back to its bytes, refusal 7
+// or refusal 8. Frame control and payload blocks both go this way.
+//
+// Internal: nothing here is a public entry. A function with a `requires` is called only where its caller has shown it.
+use refusal::Answer;
+use refusal::Refusal;
+ghost use mathlib.Core.Path.{_≡_};
+ghost use mathlib.Core.Bool.{not};
+ghost use Prim.Native.Nat.{ℕ, _+_, _*_, _<_, _≤_};
+ghost use lib.Dec.{eqb};
+ghost use lib.ListN.{length, getD};
+ghost use Rattle.bits.specs.Bits.{bitOf, byteOf};
+ghost use Rattle.bits.specs.Lists.{written};
+ghost use Rattle.bits.specs.Sums.{count};
+ghost use Rattle.refusal.specs.Report.{answer};
+ghost use Rattle.card.specs.Modes.{blockBytes};
+ghost use Rattle.turbo.specs.Puncture.{keptCount};
+ghost use Rattle.turbo.specs.Parity.{keptBit};
+ghost use Rattle.interleaver.specs.Layouts.{Defined};
+ghost use Rattle.interleaver.specs.Source.{codedBits};
+ghost use Rattle.fec.specs.Coding.{sourceBit, codedBit};
+ghost use Rattle.fec.specs.Recovery.{recovered};
+
+// The data bits of a block and then its kept parity bits, at the start of `out`.
+fn source_bits(kind: usize, rate: usize, taps: u16, bytes: &[u8], out: &mut [u8])
+    requires { ⌜ (Defined kind rate) × (length (now bytes) ≡ blockBytes kind) × (codedBits kind rate ≤ length (now out)) ⌝ }
+    ensures { λ _. ⌜ now (out .exit) ≡ written (codedBits kind rate) (sourceBit kind rate taps (bitOf (now (bytes .entry)))) (now (out .entry)) ⌝ }
+{
+    let data = 8 * bytes.len();
+    bits::unpack(bytes, out);
+    turbo::encode(kind, rate, taps, bytes, &mut out[data..]);
+}
+
+// The coded bits of a block, at the start of `out`. Of the taps the low eleven bits count.
+pub fn encode(kind: usize, rate: usize, taps: u16, bytes: &[u8], out: &mut [u8])
+    requires { ⌜ (Defined kind rate) × (length (now bytes) ≡ blockBytes kind) × (codedBits kind rate ≤ length (now out)) ⌝ }
+    ensures { λ _. ⌜ now (out .exit) ≡ written (codedBits kind rate) (codedBit kind rate taps (bitOf (now (bytes .entry)))) (now (out .entry)) ⌝ }
+{
+    let mut source = [0u8; 8320];
+    source_bits(kind, rate, taps, bytes, &mut source);
+    let coded = interleaver::coded_bits(kind, rate);
+    interleaver::interleave(kind, rate, &source[..coded], out);
+}
+
+// Byte k of some bits, one an element.
+fn pack_byte(bits: &[u8], k: usize) -> u8
+    requires { ⌜ (k < 65536) × (8 * k + 8 ≤ length (now bits)) × ((j : ℕ) → j < 8 → getD (now bits) (8 * k + j) 0 < 2) ⌝ }
+    ensures { λ r. ⌜ r ≡ byteOf (λ i. getD (now (bits .entry)) i 0) k ⌝ }
+{
+    let mut byte: u8 = 0;
+    let mut j: usize = 0;
+    while j < 8 {
+        byte = byte * 2 + bits[8 * k + j];
+        j += 1;
+    }
+    byte
+}
+
+// The first `count` bytes of some bits, one an element, at the start of `out`.
+fn pack_bytes(bits: &[u8], count: usize, out: &mut [u8])
+    requires { ⌜ (count < 65536) × (8 * count ≤ length (now bits)) × (count ≤ length (now out)) ⌝ }
+    requires { ⌜ ((i : ℕ) → i < 8 * count → getD (now bits) i 0 < 2) ⌝ }
+    ensures { λ _. ⌜ now (out .exit) ≡ written count (byteOf (λ i. getD (now (bits .entry)) i 0)) (now (out .entry)) ⌝ }
+{
+    let mut k: usize = 0;
+    while k < count {
+        out[k] = pack_byte(bits, k);
+        k += 1;
+    }
+}
+
+// How many kept parity bits of some bytes differ from those in `parity`.
+fn parity_errors(kind: usize, rate: usize, taps: u16, bytes: &[u8], parity: &[u8]) -> usize
+    requires { ⌜ (Defined kind rate) × (length (now bytes) ≡ blockBytes kind) × (length (now parity) ≡ keptCount kind rate) ⌝ }
+    ensures { λ r. ⌜ r ≡ count (keptCount kind rate) (λ i. not (eqb (keptBit kind rate taps (bitOf (now (bytes .entry))) i) (getD (now (parity .entry)) i 0))) ⌝ }
+{
+    let mut again = [0u8; 4160];
+    turbo::encode(kind, rate, taps, bytes, &mut again);
+    let kept = parity.len();
+    turbo::disagreements(&again[..kept], parity)
+}
+
+// The bytes of a block from its decided coded bits, at the start of `out`, or refusal 7 or 8.
+pub fn recover(kind: usize, rate: usize, taps: u16, decided: &[u8], out: &mut [u8]) -> Answer
+    requires { ⌜ (Defined kind rate) × (length (now decided) ≡ codedBits kind rate) × (blockBytes kind ≤ length (now out)) ⌝ }
+    ensures answer { λ r. ⌜ answer r ≡ recovered kind rate taps (λ i. getD (now (decided .entry)) i 0) (now (out .entry)) .report ⌝ }
+    ensures bytes { λ _. ⌜ now (out .exit) ≡ recovered kind rate taps (λ i. getD (now (decided .entry)) i 0) (now (out .entry)) .out ⌝ }
+{
+    let coded = decided.len();
+    let undecided = bits::first_above(decided, 1);
+    if undecided < coded {
+        return Answer::Refused(Refusal::Majority(undecided));
+    }
+    let size = card::block_bytes(kind);
+    let data = 8 * size;
+    let mut source = [0u8; 8320];
+    interleaver::deinterleave(kind, rate, decided, &mut source);
+    let mut block = [0u8; 520];
+    pack_bytes(&source, size, &mut block);
+    let errors = parity_errors(kind, rate, taps, &block[..size], &source[data..coded]);
+    if 0 < errors {
+        return Answer::Refused(Refusal::Parity(errors));
+    }
+    bits::put(&block[..size], out);
+    Answer::Done(size)
+}

@@ -1,0 +1,93 @@
+// Frame control: sixteen bytes to the items on the carriers of all its symbols, and back.
+//
+// Sending encodes the word, shuffles the coded bits and puts a copy of one on each lane; reading decides each coded bit by strict
+// majority of its copies, undoes the shuffle and compares the parity. Frame control is not scrambled.
+//
+// Public entries: `send` and `read`. Refusals are those of paper 01's table, in its order; a refusal keeps `out`.
+use card::CardRead;
+use refusal::Answer;
+use refusal::Refusal;
+ghost use mathlib.Core.Path.{_≡_};
+ghost use Prim.Native.Nat.{ℕ, _<_};
+ghost use Rattle.refusal.specs.Report.{answer};
+ghost use Rattle.refusal.specs.Outcome.{reported};
+ghost use Rattle.card.specs.Card.{cardOf};
+ghost use Rattle.card.specs.Entries.{cardRead};
+ghost use Rattle.diversity.specs.Bands.{bandCount};
+ghost use Rattle.frame_control.specs.Entries.{frameRows, sendBy, send as sendOutcome, readBy, read as readOutcome};
+
+// The card in some bytes, where it is one of frame control.
+fn frame_card(card: &[u8]) -> CardRead
+    ensures { λ r. ⌜ cardRead r ≡ reported (frameRows (now (card .entry))) (cardOf (now (card .entry))) ⌝ }
+{
+    match card::read_card(card) {
+        CardRead::Refused(r) => CardRead::Refused(r),
+        CardRead::Good(c) => {
+            if c.kind != 0 {
+                return CardRead::Refused(Refusal::Mode);
+            }
+            CardRead::Good(c)
+        }
+    }
+}
+
+// The items of a word.
+fn send_by(band: usize, taps: u16, word: &[u8], out: &mut [u8]) -> Answer
+    requires { ⌜ band < bandCount ⌝ }
+    ensures answer { λ r. ⌜ answer r ≡ sendBy band taps (now (word .entry)) (now (out .entry)) .report ⌝ }
+    ensures items { λ _. ⌜ now (out .exit) ≡ sendBy band taps (now (word .entry)) (now (out .entry)) .out ⌝ }
+{
+    if word.len() != 16 {
+        return Answer::Refused(Refusal::Length(word.len()));
+    }
+    let needed = diversity::item_count(band);
+    if out.len() < needed {
+        return Answer::Refused(Refusal::Room(needed));
+    }
+    let mut coded = [0u8; 256];
+    fec::encode(0, 0, taps, word, &mut coded);
+    diversity::copy_items(band, &coded, out);
+    Answer::Done(needed)
+}
+
+// Sends a word: its items at the start of `out`, or refusal 1, 2, 3, 4 or 5.
+pub fn send(card: &[u8], word: &[u8], out: &mut [u8]) -> Answer
+    ensures answer { λ r. ⌜ answer r ≡ sendOutcome (now (card .entry)) (now (word .entry)) (now (out .entry)) .report ⌝ }
+    ensures items { λ _. ⌜ now (out .exit) ≡ sendOutcome (now (card .entry)) (now (word .entry)) (now (out .entry)) .out ⌝ }
+{
+    match frame_card(card) {
+        CardRead::Refused(r) => Answer::Refused(r),
+        CardRead::Good(c) => send_by(c.band as usize, c.taps as u16, word, out),
+    }
+}
+
+// The word that some items decide.
+fn read_by(band: usize, taps: u16, items: &[u8], out: &mut [u8]) -> Answer
+    requires { ⌜ band < bandCount ⌝ }
+    ensures answer { λ r. ⌜ answer r ≡ readBy band taps (now (items .entry)) (now (out .entry)) .report ⌝ }
+    ensures word { λ _. ⌜ now (out .exit) ≡ readBy band taps (now (items .entry)) (now (out .entry)) .out ⌝ }
+{
+    if items.len() != diversity::item_count(band) {
+        return Answer::Refused(Refusal::Length(items.len()));
+    }
+    if out.len() < 16 {
+        return Answer::Refused(Refusal::Room(16));
+    }
+    let bad = bits::first_above(items, 2);
+    if bad < items.len() {
+        return Answer::Refused(Refusal::Item(bad));
+    }
+    let decided = diversity::decide(band, items);
+    fec::recover(0, 0, taps, &decided, out)
+}
+
+// Reads a word: its bytes at the start of `out`, or refusal 1 to 8.
+pub fn read(card: &[u8], items: &[u8], out: &mut [u8]) -> Answer
+    ensures answer { λ r. ⌜ answer r ≡ readOutcome (now (card .entry)) (now (items .entry)) (now (out .entry)) .report ⌝ }
+    ensures word { λ _. ⌜ now (out .exit) ≡ readOutcome (now (card .entry)) (now (items .entry)) (now (out .entry)) .out ⌝ }
+{
+    match frame_card(card) {
+        CardRead::Refused(r) => Answer::Refused(r),
+        CardRead::Good(c) => read_by(c.band as usize, c.taps as u16, items, out),
+    }
+}
