@@ -42,6 +42,9 @@ enum hplc_number {
 
 #define HPLC_CARD_BYTES 11
 #define HPLC_CARD_FIELDS 8
+#define HPLC_FC_BYTES 16
+#define HPLC_FC_ITEMS_BAND_0 3288
+#define HPLC_FC_ITEMS_BAND_1 3144
 
 /*
  * The fields of a job card: version, band, kind, rate, modulation, taps, spare, serial, in this order into `fields`.
@@ -71,6 +74,17 @@ uint32_t hplc_slice(uint64_t modulation, uint64_t heard, double i, double q, uin
 /* The place of a sub-carrier in a band's usable list, and back, as value[0]. Refusals 3 for a band, 4 for a number outside it. */
 uint32_t hplc_place_of_sub_carrier(uint64_t band, uint64_t sub_carrier, uint64_t value[2]);
 uint32_t hplc_sub_carrier_of_place(uint64_t band, uint64_t place, uint64_t value[2]);
+
+/*
+ * The items of a frame control: 16 bytes in, HPLC_FC_ITEMS_BAND_0 or HPLC_FC_ITEMS_BAND_1 items out, by symbol, place, I then Q.
+ * Refusals 1, 2, 3 (a payload card too), 4, 5.
+ */
+uint32_t hplc_fc_send(const uint8_t *card, size_t card_len, const uint8_t *in, size_t in_len, uint8_t *out, size_t out_len,
+                      uint64_t value[2]);
+
+/* The word of a frame control from all its received items. Refusals 1, 2, 3, 4, 5, 6, 7, 8. */
+uint32_t hplc_fc_read(const uint8_t *card, size_t card_len, const uint8_t *in, size_t in_len, uint8_t *out, size_t out_len,
+                      uint64_t value[2]);
 
 #ifdef __cplusplus
 }

@@ -14,13 +14,13 @@ use Rattle.bits.proofs.SumLaws.{count-none, count-ext}
 use Rattle.refusal.specs.declared.Refusal.the-variants.{Majority, Parity}
 use Rattle.refusal.specs.Report.{done, refusal}
 use Rattle.refusal.specs.Outcome.{Row, inOrder, rowOrder, outcome}
-use Rattle.refusal.proofs.OutcomeLaws.{NoneApplies, outcome-good}
+use Rattle.refusal.proofs.OutcomeLaws.{NoneApplies, settled, outcome-good}
 use Rattle.card.specs.Modes.{blockBytes}
 use Rattle.turbo.specs.Puncture.{keptCount}
 use Rattle.turbo.specs.Parity.{keptBit}
 use Rattle.turbo.proofs.ParityLaws.{kept-ext}
 use Rattle.interleaver.specs.Layouts.{Defined}
-use Rattle.interleaver.specs.Source.{codedBits, codedAt, source}
+use Rattle.interleaver.specs.Source.{codedBits, codedAt}
 use Rattle.interleaver.proofs.InterleaverLaws.{coded-lt, source-coded}
 use Rattle.fec.specs.Coding.{dataBits, sourceBit, codedBit}
 use Rattle.fec.specs.Recovery.{dataBit, parityBit, firstUndecided, disagreeing, recoverRows, recovered}
@@ -35,6 +35,12 @@ none-applies kind rate taps e h p =
     (le-ltb (firstUndecided kind rate e) (codedBits kind rate) h, (le-ltb 0 (disagreeing kind rate taps e) (omega arith), tt))
 
 module _ (kind rate taps : ℕ) (e : ℕ → ℕ) (out : List ℕ) where
+  -- the rows are in the table's order, so that an entry's earlier rows can be put before them
+  pub recovered-rows : recovered kind rate taps e out
+      ≡ settled (recoverRows kind rate taps e) out (blockBytes kind) (bytesOf (blockBytes kind) (dataBit kind rate e) ++ drop (blockBytes kind) out)
+  unfolding recovered
+  recovered-rows = refl
+
   pub refused-majority : firstUndecided kind rate e < codedBits kind rate
       → recovered kind rate taps e out ≡ record { report = refusal (Majority (firstUndecided kind rate e)); out = out }
   unfolding recovered
@@ -46,10 +52,12 @@ module _ (kind rate taps : ℕ) (e : ℕ → ℕ) (out : List ℕ) where
   refused-parity h p = rw (le-ltb (firstUndecided kind rate e) (codedBits kind rate) h, lt-ltb 0 (disagreeing kind rate taps e) p)
 
   pub recovered-good : codedBits kind rate ≤ firstUndecided kind rate e → disagreeing kind rate taps e ≡ 0
-      → recovered kind rate taps e out ≡ record { report = done (blockBytes kind); out = bytesOf (blockBytes kind) (dataBit kind rate e) ++ drop (blockBytes kind) out }
+      → recovered kind rate taps e out
+      ≡ record { report = done (blockBytes kind); out = bytesOf (blockBytes kind) (dataBit kind rate e) ++ drop (blockBytes kind) out }
   unfolding recovered
   recovered-good h p =
-      outcome-good (recoverRows kind rate taps e) out (blockBytes kind) (bytesOf (blockBytes kind) (dataBit kind rate e) ++ drop (blockBytes kind) out) (none-applies kind rate taps e h p)
+      outcome-good (recoverRows kind rate taps e) out (blockBytes kind) (bytesOf (blockBytes kind) (dataBit kind rate e) ++ drop (blockBytes kind) out)
+      (none-applies kind rate taps e h p)
 
 -- ---- clean return
 
@@ -92,21 +100,22 @@ module _ (kind rate : ℕ) (D : Defined kind rate) (taps : ℕ) (d : ℕ → ℕ
       → recovered kind rate taps e out ≡ record { report = done (blockBytes kind); out = bytesOf (blockBytes kind) d ++ drop (blockBytes kind) out }
   clean-return out =
       recovered-good kind rate taps e out (omega (arith, clean-decided)) clean-agrees
-      ∙ ap (λ (l : List ℕ). record { report = done (blockBytes kind); out = l ++ drop (blockBytes kind) out }) (same-bits (blockBytes kind) (dataBit kind rate e) d clean-data)
+      ∙ ap (λ (l : List ℕ). record { report = done (blockBytes kind); out = l ++ drop (blockBytes kind) out })
+      (same-bits (blockBytes kind) (dataBit kind rate e) d clean-data)
 
 -- ---- an undecided bit
 
-module _ (kind rate : ℕ) (e : ℕ → ℕ) (b : ℕ) (two : 1 < e b) where
+module _ (kind rate : ℕ) (e : ℕ → ℕ) (b : ℕ) (undecided : 1 < e b) where
   -- refusal 7 names no higher bit
   pub undecided-le : firstUndecided kind rate e ≤ b
   unfolding firstUndecided
-  undecided-le = lowest-up-to (codedBits kind rate) (λ i. ltb 1 (e i)) b (lt-ltb 1 (e b) two)
+  undecided-le = lowest-up-to (codedBits kind rate) (λ i. ltb 1 (e i)) b (lt-ltb 1 (e b) undecided)
 
   module _ (h : b < codedBits kind rate) where
     -- and this bit itself where all bits below it are decided
     pub undecided-here : ((k : ℕ) → k < b → e k ≤ 1) → firstUndecided kind rate e ≡ b
     unfolding firstUndecided
-    undecided-here below = lowest-here (codedBits kind rate) (λ i. ltb 1 (e i)) b h (λ k l. le-ltb 1 (e k) (below k l)) (lt-ltb 1 (e b) two)
+    undecided-here below = lowest-here (codedBits kind rate) (λ i. ltb 1 (e i)) b h (λ k l. le-ltb 1 (e k) (below k l)) (lt-ltb 1 (e b) undecided)
 
     -- the first row applies, and the lent memory is kept
     pub undecided-applies : ltb (firstUndecided kind rate e) (codedBits kind rate) ≡ true

@@ -42,7 +42,7 @@ pub fn encode(kind: usize, rate: usize, taps: u16, bytes: &[u8], out: &mut [u8])
     interleaver::interleave(kind, rate, &source[..coded], out);
 }
 
-// Byte k of some bits, one an element.
+// Byte k of some bits, most significant first, one an element.
 fn pack_byte(bits: &[u8], k: usize) -> u8
     requires { ⌜ (k < 65536) × (8 * k + 8 ≤ length (now bits)) × ((j : ℕ) → j < 8 → getD (now bits) (8 * k + j) 0 < 2) ⌝ }
     ensures { λ r. ⌜ r ≡ byteOf (λ i. getD (now (bits .entry)) i 0) k ⌝ }
@@ -50,7 +50,8 @@ fn pack_byte(bits: &[u8], k: usize) -> u8
     let mut byte: u8 = 0;
     let mut j: usize = 0;
     while j < 8 {
-        byte = byte * 2 + bits[8 * k + j];
+        let bit = bits[8 * k + j];
+        byte = byte * 2 + bit;
         j += 1;
     }
     byte
@@ -72,7 +73,8 @@ fn pack_bytes(bits: &[u8], count: usize, out: &mut [u8])
 // How many kept parity bits of some bytes differ from those in `parity`.
 fn parity_errors(kind: usize, rate: usize, taps: u16, bytes: &[u8], parity: &[u8]) -> usize
     requires { ⌜ (Defined kind rate) × (length (now bytes) ≡ blockBytes kind) × (length (now parity) ≡ keptCount kind rate) ⌝ }
-    ensures { λ r. ⌜ r ≡ count (keptCount kind rate) (λ i. not (eqb (keptBit kind rate taps (bitOf (now (bytes .entry))) i) (getD (now (parity .entry)) i 0))) ⌝ }
+    ensures { λ r. ⌜ r ≡ count (keptCount kind rate)
+        (λ i. not (eqb (keptBit kind rate taps (bitOf (now (bytes .entry))) i) (getD (now (parity .entry)) i 0))) ⌝ }
 {
     let mut again = [0u8; 4160];
     turbo::encode(kind, rate, taps, bytes, &mut again);
@@ -80,7 +82,8 @@ fn parity_errors(kind: usize, rate: usize, taps: u16, bytes: &[u8], parity: &[u8
     turbo::disagreements(&again[..kept], parity)
 }
 
-// The bytes of a block from its decided coded bits, at the start of `out`, or refusal 7 or 8.
+// The bytes of a block from its decided coded bits, at the start of `out`, or refusal 7 or 8. Nothing is written before both checks
+// have passed.
 pub fn recover(kind: usize, rate: usize, taps: u16, decided: &[u8], out: &mut [u8]) -> Answer
     requires { ⌜ (Defined kind rate) × (length (now decided) ≡ codedBits kind rate) × (blockBytes kind ≤ length (now out)) ⌝ }
     ensures answer { λ r. ⌜ answer r ≡ recovered kind rate taps (λ i. getD (now (decided .entry)) i 0) (now (out .entry)) .report ⌝ }

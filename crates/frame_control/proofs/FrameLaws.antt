@@ -166,3 +166,11 @@ module _ (card word : List ℕ) (good : GoodCard card) (is : Word word) where
       as-sent b h =
           undamaged (itemCount (bandOf card)) (rides (laneOf (bandOf card))) sent b (coded b) (binary b)
           (λ n l t. at-item n l ∙ ap coded (rides-at (laneOf (bandOf card)) n b t)) (omega (arith, copies-range (bandOf card) (good-band card good) b h .0, some-copies (bandOf card) (good-band card good)))
+
+  -- what was made is so many bits
+  pub made-length : (out : List ℕ) → itemCount (bandOf card) ≤ length out → length (made card word out) ≡ itemCount (bandOf card)
+  made-length out room = ap length (lanes out room) ∙ length-tabulate (itemCount (bandOf card)) (λ n. coded (laneOf (bandOf card) n))
+
+  pub made-binary : (out : List ℕ) → itemCount (bandOf card) ≤ length out → (n : ℕ) → n < itemCount (bandOf card) → getD (made card word out) n 0 < 2
+  made-binary out room n h =
+      rw (lanes out room, getD-tabulate (itemCount (bandOf card)) (λ n. coded (laneOf (bandOf card) n)) n 0 h) (binary (laneOf (bandOf card) n))

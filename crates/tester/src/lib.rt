@@ -14,6 +14,7 @@ ghost use Rattle.constellation.specs.Entries.{mapOutcome, sliceOutcome, receive
 ghost use Rattle.diversity.specs.Units.{placeReport, subCarrierReport, placeOf, subCarrierOf};
 ghost use Rattle.card.specs.Entries.{readFields, writeCard};
 ghost use Rattle.card.specs.Text.{textCard};
+ghost use Rattle.frame_control.specs.Entries.{send as frameSend, read as frameRead};
 ghost use Rattle.tester.specs.Call.{Reported, Returned};
 
 // The fields of a card: version, band, kind, rate, modulation, taps, spare, serial.
@@ -134,4 +135,32 @@ pub extern "C" fn hplc_sub_carrier_of_place(band: u64, place: u64, value: &mut [
 {
     let sub_carrier = diversity::sub_carrier_of(band as usize, Place(place as usize));
     refusal::report(sub_carrier_answer(sub_carrier), value)
+}
+
+// The items of a frame control.
+#[no_mangle]
+pub extern "C" fn hplc_fc_send(
+    card: &[u8],
+    word: &[u8],
+    out: &mut [u8],
+    value: &mut [u64; 2],
+) -> u32
+    ensures { λ n. ⌜ Returned (frameSend (now (card .entry)) (now (word .entry)) (now (out .entry))) n (now (value .exit)) (now (out .exit)) ⌝ }
+{
+    let answer = frame_control::send(card, word, out);
+    refusal::report(answer, value)
+}
+
+// The word of a frame control.
+#[no_mangle]
+pub extern "C" fn hplc_fc_read(
+    card: &[u8],
+    items: &[u8],
+    out: &mut [u8],
+    value: &mut [u64; 2],
+) -> u32
+    ensures { λ n. ⌜ Returned (frameRead (now (card .entry)) (now (items .entry)) (now (out .entry))) n (now (value .exit)) (now (out .exit)) ⌝ }
+{
+    let answer = frame_control::read(card, items, out);
+    refusal::report(answer, value)
 }

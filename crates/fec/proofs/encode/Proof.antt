@@ -16,28 +16,46 @@ use Rattle.fec.specs.Coding.{sourceBit, codedBit}
 use Rattle.fec.proofs.encode.Statement.{statement}
 use Rattle.fec.proofs.encode.Tie as tie
 
--- a buffer that holds the source bits of a block, and the number of coded bits
-module _ (kind rate taps : ℕ) (D : Defined kind rate) (d : ℕ → ℕ) (was bits : List ℕ) (room : codedBits kind rate ≤ length was)
-    (e : bits ≡ written (codedBits kind rate) (sourceBit kind rate taps d) was) (coded : ℕ) (n : coded ≡ codedBits kind rate) where
-  held : coded ≤ length bits
-  held = omega (arith, ap length e ∙ length-written (codedBits kind rate) (sourceBit kind rate taps d) was room)
+-- `bits` holds the source bits of the data bits d
+record Held (kind rate taps : ℕ) (d : ℕ → ℕ) (bits : List ℕ) : Type 0 where
+  room : codedBits kind rate ≤ length bits
+  held : (s : ℕ) → s < codedBits kind rate → getD bits s 0 ≡ sourceBit kind rate taps d s
+
+module _ {kind rate taps : ℕ} {d : ℕ → ℕ} {bits : List ℕ} (H : Held kind rate taps d bits) (coded : ℕ) (n : coded ≡ codedBits kind rate) where
+  coded-held : coded ≤ length bits
+  coded-held = omega (arith, H .room)
 
   held-length : length (take coded bits) ≡ coded
-  held-length = length-take-le coded bits held
+  held-length = length-take-le coded bits coded-held
 
   -- the source bits in the interleaver's order are the coded bits
-  coded-written : (out : List ℕ)
+  coded-written : Defined kind rate → (out : List ℕ)
       → written (codedBits kind rate) (λ i. getD (take coded bits) (source kind rate i) 0) out ≡ written (codedBits kind rate) (codedBit kind rate taps d) out
   unfolding codedBit
-  coded-written out =
+  coded-written D out =
       written-ext (codedBits kind rate) (λ i. getD (take coded bits) (source kind rate i) 0) (λ i. sourceBit kind rate taps d (source kind rate i)) out (λ i h.
       let l : source kind rate i < codedBits kind rate = source-lt kind rate D i h in
-      getD-take coded bits (source kind rate i) 0 (omega arith) ∙ ap (λ (s : List ℕ). getD s (source kind rate i) 0) e
-      ∙ getD-written (codedBits kind rate) (sourceBit kind rate taps d) was (source kind rate i) 0 l)
+      getD-take coded bits (source kind rate i) 0 (omega arith) ∙ H .held (source kind rate i) l)
 
 -- the local array has room for the source bits of every block
 fits : (z : tie.Start) → codedBits (z .args .kind) (z .args .rate) ≤ 8320
 fits z = coded-le (z .args .kind) (z .args .rate) (z .pre .0)
+
+-- the function's entry, from the place where the source bits are written
+abbrev entry : tie.After-source-bits → tie.Start
+entry c = c .before .before .before .before
+
+filled : (c : tie.After-source-bits)
+    → Held (entry c .args .kind) (entry c .args .rate) (entry c .args .taps) (bitOf (entry c .args .bytes .now)) (c .source-bits .last .1 .1 .1 .1 .0)
+filled c =
+    let z = entry c in
+    let n = codedBits (z .args .kind) (z .args .rate) in
+    let f = sourceBit (z .args .kind) (z .args .rate) (z .args .taps) (bitOf (z .args .bytes .now)) in
+    let e = c .source-bits .ensures in
+    record {
+      room = omega (arith, fits z, ap length e ∙ length-written n f _ (fits z));
+      held = λ s l. ap (λ (b : List ℕ). getD b s 0) e ∙ getD-written n f _ s 0 l;
+    }
 
 slice-aggregate-source-bits : tie.Need-slice-aggregate-source-bits
 slice-aggregate-source-bits c = search needs
@@ -49,23 +67,16 @@ coded-bits-requires : tie.Need-coded-bits-requires
 coded-bits-requires c κs = search needs
 
 array-share-prefix-source : tie.Need-array-share-prefix-source
-array-share-prefix-source c =
-    let z = c .before .before .before .before .before .before in
-    held (z .args .kind) (z .args .rate) (z .args .taps) (z .pre .0) (bitOf (z .args .bytes .now)) _ _ (fits z) (c .before .before .source-bits .ensures) _ (c .coded-bits .ensures)
+array-share-prefix-source c = coded-held (filled (c .before .before)) _ (c .coded-bits .ensures)
 
 slice-aggregate-interleave : tie.Need-slice-aggregate-interleave
-slice-aggregate-interleave c =
-    let z = c .before .before .before .before .before .before .before in
-    sym (held-length (z .args .kind) (z .args .rate) (z .args .taps) (z .pre .0) (bitOf (z .args .bytes .now)) _ _ (fits z) (c .before .before .before .source-bits .ensures) _ (c .before .coded-bits .ensures))
+slice-aggregate-interleave c = sym (held-length (filled (c .before .before .before)) _ (c .before .coded-bits .ensures))
 
 interleave-requires : tie.Need-interleave-requires
 interleave-requires c κs =
-    let z = c .before .before .before .before .before .before .before .before in (
-      z .pre .0,
-      held-length (z .args .kind) (z .args .rate) (z .args .taps) (z .pre .0) (bitOf (z .args .bytes .now)) _ _ (fits z) (c .before .before .before .before .source-bits .ensures) _ (c .before .before .coded-bits .ensures)
-          ∙ c .before .before .coded-bits .ensures,
-      z .pre .2,
-    )
+    let o = c .before .before in
+    let z = entry (o .before .before) in
+    (z .pre .0, held-length (filled (o .before .before)) _ (o .coded-bits .ensures) ∙ o .coded-bits .ensures, z .pre .2)
 
 same-length : tie.Need-same-length
 same-length c = search needs
@@ -73,9 +84,8 @@ same-length c = search needs
 returns : tie.Need-returns
 returns c =
     let o = c .before .before .before .before .before in
-    let z = o .before .before .before .before .before .before in
-    c .before .before .interleave .ensures
-    ∙ coded-written (z .args .kind) (z .args .rate) (z .args .taps) (z .pre .0) (bitOf (z .args .bytes .now)) _ _ (fits z) (o .before .before .source-bits .ensures) _ (o .coded-bits .ensures) (z .args .out .now)
+    let z = entry (o .before .before) in
+    c .before .before .interleave .ensures ∙ coded-written (filled (o .before .before)) _ (o .coded-bits .ensures) (z .pre .0) (z .args .out .now)
 
 pub encode-spec : {M : Type 1} → statement M
 encode-spec =

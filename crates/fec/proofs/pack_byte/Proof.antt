@@ -3,7 +3,7 @@ use mathlib.Core.Path.{_≡_, refl, sym, ap, _∙_}
 use mathlib.Core.List.{List}
 use Prim.Native.Nat.{ℕ, _+_, _-_, _*_, _≤_, _<_}
 use native.Mathlib.Omega.{arith}
-use lib.ListN.{length, getD}
+use lib.ListN.{getD}
 use lib.Pow.{pow-mono}
 use borrow.Author.Needs.{needs}
 use Rattle.bits.specs.Bits.{pack, byteOf}
@@ -21,31 +21,39 @@ Inv-loop bits k byte₀ j₀ byte j = (j ≤ 8) × (byte ≡ pack j (bitsAt bits
 abbrev μ-loop : tie.MeasureT-loop
 μ-loop bits k byte₀ j₀ byte j = 8 - j
 
--- before a turn there is room for one bit more
-small : (c : tie.In-loop Inv-loop μ-loop) → c .before .loop .byte < 128
-small c =
-    let a = c .before .before .args in
-    let j = c .before .loop .j in
-    omega (arith, c .before .loop .inv .1, pack-lt j (bitsAt (a .bits .now) (a .k)) (λ i l. c .before .before .pre .2 i (omega arith)), pow-mono {i = j} {j = 7} (omega arith))
+-- at each turn there is room for one bit more, and a bit is read
+turn : (c : tie.After-shared-slice-known Inv-loop μ-loop)
+    → (c .before .before .loop .byte < 128) × (bitsAt (c .before .before .before .args .bits .now) (c .before .before .before .args .k) (c .before .before .loop .j) < 2)
+turn c =
+    let z = c .before .before .before in
+    let j = c .before .before .loop .j in (
+      omega (
+        arith,
+        c .before .before .loop .inv .1,
+        pack-lt j (bitsAt (z .args .bits .now) (z .args .k)) (λ i l. z .pre .2 i (omega arith)),
+        pow-mono {i = j} {j = 7} (omega arith),
+      ),
+      z .pre .2 j (omega arith),
+    )
 
 loop-holds : tie.Need-loop-holds Inv-loop μ-loop
 unfolding pack
 loop-holds c = (search needs, refl)
 
-mul-byte : tie.Need-mul-byte Inv-loop μ-loop
-mul-byte c = omega (arith, small c)
+mul-bit : tie.Need-mul-bit Inv-loop μ-loop
+mul-bit c = omega arith
 
-mul-byte-2 : tie.Need-mul-byte-2 Inv-loop μ-loop
-mul-byte-2 c = omega arith
+add-bit : tie.Need-add-bit Inv-loop μ-loop
+add-bit c = omega arith
+
+shared-slice-read-bit : tie.Need-shared-slice-read-bit Inv-loop μ-loop
+shared-slice-read-bit c = omega arith
+
+mul-byte : tie.Need-mul-byte Inv-loop μ-loop
+mul-byte c = omega (arith, turn c .0, turn c .1)
 
 add-byte : tie.Need-add-byte Inv-loop μ-loop
-add-byte c = omega arith
-
-shared-slice-read-byte : tie.Need-shared-slice-read-byte Inv-loop μ-loop
-shared-slice-read-byte c = omega arith
-
-add-byte-2 : tie.Need-add-byte-2 Inv-loop μ-loop
-add-byte-2 c = omega (arith, small (c .before), c .before .before .before .pre .2 (c .before .before .loop .j) (omega arith))
+add-byte c = omega (arith, turn c .0, turn c .1)
 
 add-j : tie.Need-add-j Inv-loop μ-loop
 add-j c = omega arith
@@ -73,11 +81,11 @@ pack-byte-spec =
     Inv-loop
     μ-loop
     loop-holds
+    mul-bit
+    add-bit
+    shared-slice-read-bit
     mul-byte
-    mul-byte-2
     add-byte
-    shared-slice-read-byte
-    add-byte-2
     add-j
     loop-less
     loop-again

@@ -2,19 +2,17 @@
 use mathlib.Core.Path.{_≡_, sym, ap, _∙_}
 use mathlib.Core.Bool.{not}
 use mathlib.Core.List.{List}
-use Prim.Native.Nat.{ℕ, _≤_, _<_}
+use Prim.Native.Nat.{ℕ, _≤_}
 use native.Mathlib.Omega.{arith}
 use lib.Dec.{eqb}
 use lib.ListN.{length, getD, take}
 use lib.Seq.{length-take-le, getD-take}
 use borrow.Author.Needs.{needs}
-use Rattle.bits.specs.Bits.{bitOf}
 use Rattle.bits.specs.Lists.{written}
 use Rattle.bits.specs.Sums.{count}
 use Rattle.bits.proofs.ListLaws.{length-written, getD-written}
 use Rattle.bits.proofs.SumLaws.{count-ext}
 use Rattle.turbo.specs.Puncture.{keptCount}
-use Rattle.turbo.specs.Parity.{keptBit}
 use Rattle.turbo.proofs.PunctureLaws.{kept-le}
 use Rattle.turbo.proofs.StepLaws.{few-pairs}
 use Rattle.fec.proofs.parity_errors.Statement.{statement}

@@ -1,44 +1,49 @@
 -- `fec::recover` meets its contract: each return is a case of `recovered`. Assumes nothing.
 use mathlib.Core.Path.{_≡_, sym, ap, _∙_}
 use mathlib.Core.List.{List}
-use Prim.Native.Nat.{ℕ, _+_, _-_, _*_, _≤_, _<_}
+use Prim.Native.Nat.{ℕ}
 use native.Mathlib.Omega.{arith}
-use lib.ListN.{length, getD}
 use borrow.Author.Needs.{needs}
 use Rattle.refusal.specs.Report.{Report, done, refused}
 use Rattle.refusal.specs.Outcome.{Outcome}
 use Rattle.interleaver.proofs.InterleaverLaws.{coded-le}
-use Rattle.fec.specs.Recovery.{firstUndecided, disagreeing, recovered}
+use Rattle.fec.specs.Recovery.{firstUndecided, disagreeing}
 use Rattle.fec.proofs.CodingLaws.{few-bytes}
 use Rattle.fec.proofs.RecoveryLaws.{refused-majority, refused-parity, recovered-good}
 use Rattle.fec.proofs.BufferLaws.{decidedAt, first-is, Deinterleaved, deinterleaved, data-le, decided-le, data-room, bits-binary, parity-length, Packed, packed, block-length, errors-are, block-put}
 use Rattle.fec.proofs.recover.Statement.{statement}
 use Rattle.fec.proofs.recover.Tie as tie
 
--- what the source bits' buffer holds, once they are deinterleaved
+-- the places at which a fact is found: the entry, the deinterleaved bits, and the packed block
+abbrev entry : tie.After-deinterleave → tie.Start
+entry c = c .before .before .before .before .before .before .before
+
+abbrev bits-at : tie.After-pack-bytes → tie.After-deinterleave
+bits-at c = c .before .before .before .before
+
+abbrev block-at : tie.After-parity-errors → tie.After-pack-bytes
+block-at c = c .before .before .before .before .before
+
+-- what the source bits' buffer holds
 opened : (c : tie.After-deinterleave)
-    → Deinterleaved (c .before .before .before .before .before .before .before .args .kind) (c .before .before .before .before .before .before .before .args .rate)
-    (c .before .before .before .before .before .before .before .args .decided .now) (c .deinterleave .last .1 .1 .1 .0) (c .before .before .block-bytes .result)
+    → Deinterleaved (entry c .args .kind) (entry c .args .rate) (entry c .args .decided .now) (c .deinterleave .last .1 .1 .1 .0) (c .before .before .block-bytes .result)
 opened c =
-    let z = c .before .before .before .before .before .before .before in
+    let z = entry c in
     deinterleaved (z .args .kind) (z .args .rate) (c .before .before .block-bytes .result) (z .args .decided .now) _ (c .deinterleave .last .1 .1 .1 .0)
     (z .pre .0) (z .pre .1) (omega (arith, c .before .before .before .before .first-above .ensures)) (c .before .before .block-bytes .ensures)
     (coded-le (z .args .kind) (z .args .rate) (z .pre .0)) (c .deinterleave .ensures)
 
--- and the block's buffer, once its bytes are packed
+-- and the block's buffer
 filled : (c : tie.After-pack-bytes)
-    → Packed (c .before .before .before .before .before .before .before .before .before .before .before .args .kind) (c .before .before .before .before .before .before .before .before .before .before .before .args .rate)
-    (c .before .before .before .before .before .before .before .before .before .before .before .args .decided .now) (c .before .before .before .before .deinterleave .last .1 .1 .1 .0)
-    (c .pack-bytes .last .1 .1 .0) (c .before .before .before .before .before .before .block-bytes .result)
-filled c = let h = opened (c .before .before .before .before) in packed _ (c .pack-bytes .last .1 .1 .0) h (data-room h .2) (c .pack-bytes .ensures)
+    → Packed (entry (bits-at c) .args .kind) (entry (bits-at c) .args .rate) (entry (bits-at c) .args .decided .now) (bits-at c .deinterleave .last .1 .1 .1 .0)
+    (c .pack-bytes .last .1 .1 .0) (bits-at c .before .before .block-bytes .result)
+filled c = let h = opened (bits-at c) in packed _ (c .pack-bytes .last .1 .1 .0) h (data-room h .2) (c .pack-bytes .ensures)
 
 -- the count that the code compares with 0 is the one of the definition
 errors : (c : tie.After-parity-errors)
-    → c .parity-errors .result
-    ≡ disagreeing (c .before .before .before .before .before .before .before .before .before .before .before .before .before .before .before .before .args .kind) (c .before .before .before .before .before .before .before .before .before .before .before .before .before .before .before .before .args .rate)
-    (c .before .before .before .before .before .before .before .before .before .before .before .before .before .before .before .before .args .taps)
-    (decidedAt (c .before .before .before .before .before .before .before .before .before .before .before .before .before .before .before .before .args .decided .now))
-errors c = c .parity-errors .ensures ∙ errors-are (filled (c .before .before .before .before .before)) _
+    → let z = entry (bits-at (block-at c)) in
+    c .parity-errors .result ≡ disagreeing (z .args .kind) (z .args .rate) (z .args .taps) (decidedAt (z .args .decided .now))
+errors c = c .parity-errors .ensures ∙ errors-are (filled (block-at c)) _
 
 first-above-requires : tie.Need-first-above-requires
 first-above-requires c κs = search needs
@@ -102,22 +107,22 @@ parity-errors-requires c κs =
 returns-2 : tie.Need-returns-2
 returns-2 c =
     let e = errors (c .before) in
-    let p = filled (c .before .before .before .before .before .before) in
-    let z = c .before .before .before .before .before .before .before .before .before .before .before .before .before .before .before .before .before in
-    let law = refused-parity (z .args .kind) (z .args .rate) (z .args .taps) (decidedAt (z .args .decided .now)) (z .args .out .now) (p .source .all) (omega (arith, e, c .if2 .taken)) in
+    let z = entry (bits-at (block-at (c .before))) in
+    let law =
+    refused-parity (z .args .kind) (z .args .rate) (z .args .taps) (decidedAt (z .args .decided .now)) (z .args .out .now)
+    (filled (block-at (c .before)) .source .all) (omega (arith, e, c .if2 .taken)) in
     (ap (λ (n : ℕ). refused 8 n 0) e ∙ ap (λ (o : Outcome ℕ (List ℕ)). o .report) (sym law), ap (λ (o : Outcome ℕ (List ℕ)). o .out) (sym law))
 
 array-share-prefix-block-2 : tie.Need-array-share-prefix-block-2
-array-share-prefix-block-2 c = filled (c .before .before .before .before .before .before) .room
+array-share-prefix-block-2 c = filled (block-at (c .before)) .room
 
 slice-aggregate-put : tie.Need-slice-aggregate-put
-slice-aggregate-put c = sym (block-length (filled (c .before .before .before .before .before .before .before)))
+slice-aggregate-put c = sym (block-length (filled (block-at (c .before .before))))
 
 put-requires : tie.Need-put-requires
 put-requires c κs =
-    let p = filled (c .before .before .before .before .before .before .before .before) in
-    let z = c .before .before .before .before .before .before .before .before .before .before .before .before .before .before .before .before .before .before .before in
-    omega (arith, block-length p, p .source .size-is, z .pre .2)
+    let p = block-at (c .before .before .before) in
+    omega (arith, block-length (filled p), filled p .source .size-is, entry (bits-at p) .pre .2)
 
 same-length : tie.Need-same-length
 same-length c = search needs
@@ -125,10 +130,12 @@ same-length c = search needs
 returns-3 : tie.Need-returns-3
 returns-3 c =
     let o = c .before .before .before .before .before in
-    let p = filled (o .before .before .before .before .before .before) in
-    let z = o .before .before .before .before .before .before .before .before .before .before .before .before .before .before .before .before .before in
-    let law = recovered-good (z .args .kind) (z .args .rate) (z .args .taps) (decidedAt (z .args .decided .now)) (z .args .out .now) (p .source .all) (omega (arith, errors (o .before), o .if2 .left)) in (
-      ap {B = Report ℕ} (λ (n : ℕ). done n) (p .source .size-is) ∙ ap (λ (q : Outcome ℕ (List ℕ)). q .report) (sym law),
+    let p = filled (block-at (o .before)) in
+    let z = entry (bits-at (block-at (o .before))) in
+    let law =
+    recovered-good (z .args .kind) (z .args .rate) (z .args .taps) (decidedAt (z .args .decided .now)) (z .args .out .now) (p .source .all)
+    (omega (arith, errors (o .before), o .if2 .left)) in (
+      ap {B = Report ℕ} done (p .source .size-is) ∙ ap (λ (q : Outcome ℕ (List ℕ)). q .report) (sym law),
       c .before .before .put .ensures ∙ block-put p (z .args .out .now) ∙ ap (λ (q : Outcome ℕ (List ℕ)). q .out) (sym law),
     )
 

@@ -19,7 +19,8 @@ use Rattle.fec.proofs.CodingLaws.{few-bytes, source-data, source-parity
 use Rattle.fec.proofs.source_bits.Statement.{statement}
 use Rattle.fec.proofs.source_bits.Tie as tie
 
-module _ (kind rate : ℕ) (D : Defined kind rate) (bytes out : List ℕ) (whole : length bytes ≡ blockBytes kind) (room : codedBits kind rate ≤ length out) where
+module _ (kind rate : ℕ) (D : Defined kind rate) (bytes out : List ℕ) (whole : length bytes ≡ blockBytes kind)
+    (room : codedBits kind rate ≤ length out) where
   data-room : (length bytes < 65536) × (8 * length bytes ≤ length out)
   data-room = (omega (arith, few-bytes kind (D .kind-lt)), omega (arith, coded-count kind rate D))
 
@@ -72,7 +73,8 @@ encode-requires c κs =
       z .pre .0 .kind-lt,
       z .pre .0 .rate-lt,
       z .pre .1,
-      parity-room (z .args .kind) (z .args .rate) (z .pre .0) (z .args .bytes .now) (z .args .out .now) (z .pre .1) (z .pre .2) _ (c .before .before .before .unpack .ensures),
+      parity-room (z .args .kind) (z .args .rate) (z .pre .0) (z .args .bytes .now) (z .args .out .now) (z .pre .1) (z .pre .2) _
+          (c .before .before .before .unpack .ensures),
     )
 
 same-length : tie.Need-same-length
@@ -81,7 +83,8 @@ same-length c = search needs
 returns : tie.Need-returns
 returns c =
     let z = c .before .before .before .before .before .before .before .before .before .before in
-    source-written (z .args .kind) (z .args .rate) (z .pre .0) (z .args .bytes .now) (z .args .out .now) (z .pre .1) (z .pre .2) _ (c .before .before .before .before .before .before .unpack .ensures)
+    source-written (z .args .kind) (z .args .rate) (z .pre .0) (z .args .bytes .now) (z .args .out .now) (z .pre .1) (z .pre .2) _
+    (c .before .before .before .before .before .before .unpack .ensures)
     (z .args .taps) _ (c .before .before .encode .ensures)
 
 pub source-bits-spec : {M : Type 1} → statement M

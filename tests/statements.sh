@@ -1,0 +1,38 @@
+#!/usr/bin/env bash
+# Every name and every must-fail edit that docs/STATEMENTS.md gives is there: `crate/path#name` and `crate/must-fail/label`.
+set -u
+cd "$(dirname "$0")/.." || exit 1
+bad=0
+seen=0
+while IFS= read -r cite; do
+  seen=$((seen + 1))
+  case $cite in
+    *'#'*)
+      file=crates/${cite%%#*}
+      name=${cite#*#}
+      if ! [ -f "$file" ] || ! grep -qE "(^|[^[:alnum:]_·-])$name([^[:alnum:]_-]|$)" "$file"; then
+        printf 'not there: %s\n' "$cite"
+        bad=1
+      fi
+      ;;
+    */must-fail/*)
+      if ! [ -f "crates/$cite.edit" ]; then
+        printf 'not there: %s\n' "$cite"
+        bad=1
+      fi
+      ;;
+  esac
+done < <(grep -oE '`[a-z_]+/(must-fail/[a-z0-9_]+|[A-Za-z_/]+\.(antt|rt)#[^` ]+)`' docs/STATEMENTS.md | tr -d '`')
+if [ "$seen" -eq 0 ]; then
+  printf 'no name found in docs/STATEMENTS.md\n'
+  bad=1
+fi
+# The other way round: every must-fail edit is named there.
+for edit in crates/*/must-fail/*.edit; do
+  label=${edit#crates/}
+  if ! grep -qF "\`${label%.edit}\`" docs/STATEMENTS.md; then
+    printf 'not named in docs/STATEMENTS.md: %s\n' "${label%.edit}"
+    bad=1
+  fi
+done
+exit "$bad"
