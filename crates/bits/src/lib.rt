@@ -3,10 +3,10 @@
 // Internal: nothing here is a public entry. A function with a `requires` is called only where its caller has shown it.
 ghost use mathlib.Core.Path.{_≡_};
 ghost use mathlib.Core.List.{_++_};
-ghost use Prim.Native.Nat.{ℕ, _*_, _<_, _≤_};
-ghost use lib.ListN.{length, getD, drop};
+ghost use Prim.Native.Nat.{_*_, _<_, _≤_};
+ghost use lib.ListN.{length, drop};
 ghost use Rattle.bits.specs.Lists.{written, firstAbove};
-ghost use Rattle.bits.specs.Bits.{bitOf, byteOf};
+ghost use Rattle.bits.specs.Bits.{bitOf};
 
 // The lowest index of an element above `limit`, or the slice's length.
 pub fn first_above(s: &[u8], limit: u8) -> usize

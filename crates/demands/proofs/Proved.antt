@@ -1,7 +1,7 @@
 -- The demands, proved from what the crates have. Assumes nothing.
-use mathlib.Core.List.{List, _++_}
+use mathlib.Core.List.{_++_}
 use mathlib.Core.Path.{_≡_, refl, sym, ap, _∙_}
-use Prim.Native.Nat.{ℕ, _*_, _<_, _≤_}
+use Prim.Native.Nat.{ℕ, _*_}
 use native.Mathlib.Omega.{arith}
 use lib.ListN.{length, getD}
 use Rattle.bits.specs.Lists.{tabulate}
@@ -10,7 +10,7 @@ use Rattle.constellation.specs.Carriers.{throughPoints}
 use Rattle.constellation.proofs.RoundTrip.{list-back}
 use Rattle.diversity.specs.Bands.{carrierCount, itemCount}
 use Rattle.frame_control.specs.Entries.{bandOf, frameRows, wordRows, readRows, tapsOf, send, read}
-use Rattle.frame_control.specs.Words.{GoodCard, Word, made}
+use Rattle.frame_control.specs.Words.{made}
 use Rattle.frame_control.proofs.FrameLaws.{clean, comes-back, refused-at-limit, made-length, made-binary}
 use Rattle.demands.specs.Demands.{Keeps, ComesHome, Survives, BestPossible}
 

@@ -1,5 +1,4 @@
 -- The bench checks of paper 01 that are marked P: what the rules give beside what the paper prints, under one claim. Assumes nothing.
-use mathlib.Core.Bool.{Bool}
 use mathlib.Core.List.{List, [], _∷_}
 use mathlib.Core.Path.{_≡_, refl}
 use Prim.{Unit}

@@ -9,7 +9,7 @@ use Rattle.refusal.specs.Outcome.{Outcome}
 use Rattle.constellation.specs.Carriers.{throughPoints}
 use Rattle.diversity.specs.Bands.{carrierCount, itemCount, fewestCopies}
 use Rattle.diversity.specs.Damage.{Damage, altered, lost}
-use Rattle.frame_control.specs.Entries.{bandOf, send, read}
+use Rattle.frame_control.specs.Entries.{bandOf, read}
 use Rattle.frame_control.specs.Words.{GoodCard, Word, made}
 
 -- an entry: a card, an input and a lent buffer to what is reported and what the buffer then holds

@@ -1,2 +1,3 @@
+-- The statements that a reader holds against the papers. Assumes nothing.
 pub mod Checks
 pub mod Demands

@@ -1,2 +1,3 @@
+-- What the contracts and the theorems of `fec` cite. Assumes nothing.
 pub mod Coding
 pub mod Recovery

@@ -18,7 +18,7 @@ use Rattle.diversity.proofs.LaneLaws.{lane-below}
 use Rattle.refusal.specs.declared.Refusal.{Refusal}
 use Rattle.refusal.specs.declared.Refusal.the-variants.{Mode}
 use Rattle.refusal.specs.Report.{Report, done, refusal}
-use Rattle.refusal.specs.Outcome.{Row, row, Outcome, firstApplicable, reported}
+use Rattle.refusal.specs.Outcome.{Row, row, firstApplicable, reported}
 use Rattle.refusal.proofs.OutcomeLaws.{NoneApplies, settled, none-outcome, done-same, reported-done, refused-report, passed-report, refused-outcome, passed-outcome}
 use Rattle.card.specs.declared.Card.{Card}
 use Rattle.card.specs.Card.{cardOf}

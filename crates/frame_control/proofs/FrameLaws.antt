@@ -1,22 +1,21 @@
 -- Clean return and demand 3 over the entries' outcome definitions. Assumes nothing.
-use mathlib.Core.Path.{_≡_, refl, sym, ap, _∙_, subst}
-use mathlib.Core.Bool.{Bool, true, false, not, _&&_}
-use mathlib.Core.List.{List, [], _∷_, _++_}
+use mathlib.Core.Path.{_≡_, sym, ap, _∙_}
+use mathlib.Core.Bool.{false, not}
+use mathlib.Core.List.{List, [], _++_}
 use Prim.Native.Nat.{ℕ, _+_, _*_, _≤_, _<_}
 use native.Mathlib.Omega.{arith}
 use lib.Dec.{T, eqb, eqb→eq, ltb, ltb→lt}
-use lib.ListN.{length, getD, take, drop, set}
+use lib.ListN.{length, getD, take, drop}
 use lib.Seq.{take-at}
-use borrow.Author.Tests.{lt-ltb, le-ltb, eq-eqb, eqb-true, not-false}
+use borrow.Author.Tests.{le-ltb, eq-eqb, not-false}
 use Rattle.bits.specs.Bits.{bitOf, bytesOf}
 use Rattle.bits.specs.Lists.{tabulate, written, firstAbove}
 use Rattle.bits.proofs.BitLaws.{bit-binary, bytes-bits}
 use Rattle.bits.proofs.ListLaws.{length-tabulate, getD-tabulate, tabulate-ext, first-none}
-use Rattle.refusal.specs.Report.{done, refusal, number}
-use Rattle.refusal.specs.Outcome.{Row, Outcome, inOrder, rowOrder}
-use Rattle.refusal.proofs.OutcomeLaws.{NoneApplies, settled, reported-done, outcome-good, none-outcome}
+use Rattle.refusal.specs.Report.{done, number}
+use Rattle.refusal.proofs.OutcomeLaws.{NoneApplies, reported-done, outcome-good, none-outcome}
 use Rattle.card.specs.Card.{cardOf}
-use Rattle.card.specs.Entries.{cardRows, defined, definedMode}
+use Rattle.card.specs.Entries.{defined}
 use Rattle.card.proofs.CardLaws.{defined-small}
 use Rattle.interleaver.specs.Source.{codedBits}
 use Rattle.interleaver.proofs.InterleaverLaws.{defined-half, coded-half}
@@ -26,12 +25,11 @@ use Rattle.fec.proofs.CodingLaws.{coded-binary}
 use Rattle.fec.proofs.RecoveryLaws.{clean-return, undecided-le, refused-majority}
 use Rattle.diversity.specs.Bands.{bandCount, carriers, carrierCount, itemCount, fewestCopies}
 use Rattle.diversity.specs.Lanes.{rides, laneOf}
-use Rattle.diversity.specs.Votes.{decided}
 use Rattle.diversity.specs.Damage.{Damage, altered, lost}
 use Rattle.diversity.proofs.BandLaws.{copies-range, band-survives, band-undecides}
 use Rattle.diversity.proofs.VoteLaws.{undamaged}
 use Rattle.bits.proofs.RangeLaws.{at-each}
-use Rattle.frame_control.specs.Entries.{bandOf, tapsOf, frameRows, wordRows, sentItem, sendBy, send, decidedBit, itemRows, readRows, readBy, read}
+use Rattle.frame_control.specs.Entries.{bandOf, tapsOf, frameRows, wordRows, sentItem, send, decidedBit, itemRows, read}
 use Rattle.frame_control.specs.Words.{GoodCard, Word, made}
 
 -- what a good card says

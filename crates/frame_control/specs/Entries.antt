@@ -7,7 +7,6 @@ use lib.Dec.{eqb, ltb}
 use lib.ListN.{length, drop}
 use Rattle.bits.specs.Bits.{bitOf, bytesOf}
 use Rattle.bits.specs.Lists.{written, firstAbove}
-use Rattle.refusal.specs.declared.Refusal.{Refusal}
 use Rattle.refusal.specs.declared.Refusal.the-variants.{Mode, Length, Room, Item}
 use Rattle.refusal.specs.Outcome.{Row, row, Outcome, outcome}
 use Rattle.card.specs.Card.{cardOf}

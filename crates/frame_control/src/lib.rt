@@ -8,7 +8,7 @@ use card::CardRead;
 use refusal::Answer;
 use refusal::Refusal;
 ghost use mathlib.Core.Path.{_≡_};
-ghost use Prim.Native.Nat.{ℕ, _<_};
+ghost use Prim.Native.Nat.{_<_};
 ghost use Rattle.refusal.specs.Report.{answer};
 ghost use Rattle.refusal.specs.Outcome.{reported};
 ghost use Rattle.card.specs.Card.{cardOf};

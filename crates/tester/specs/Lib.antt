@@ -1,1 +1,2 @@
+-- What the contracts and the theorems of `tester` cite. Assumes nothing.
 pub mod Call

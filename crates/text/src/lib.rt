@@ -2,11 +2,10 @@
 //
 // Internal: nothing here is a public entry. `at` is where the text so far ends; each function returns where it ends then.
 ghost use mathlib.Core.Path.{_≡_};
-ghost use Prim.Native.Nat.{ℕ, _+_, _*_, _/_, _%_, _^_, _-_, _<_, _≤_};
+ghost use Prim.Native.Nat.{_+_, _/_, _%_, _^_, _-_, _<_, _≤_};
 ghost use lib.ListN.{length};
-ghost use Rattle.bits.specs.Bits.{bitAt};
 ghost use Rattle.bits.specs.Lists.{tabulate};
-ghost use Rattle.text.specs.Text.{places, decimal, binary, line, appended};
+ghost use Rattle.text.specs.Text.{places, decimal, line, appended};
 
 // Appends some bytes.
 pub fn append(buf: &mut [u8], at: usize, src: &[u8]) -> usize
