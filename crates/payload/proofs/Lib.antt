@@ -1,0 +1,5 @@
+pub mod Extra
+pub mod ModeLaws
+pub mod EntryLaws
+pub mod BufferLaws
+pub mod ReturnLaws

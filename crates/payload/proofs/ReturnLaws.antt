@@ -1,0 +1,166 @@
+-- Clean return and the law of the majority over the entries' outcome definitions. Assumes nothing.
+use mathlib.Core.Path.{_≡_, refl, sym, ap, _∙_}
+use mathlib.Core.Bool.{true}
+use mathlib.Core.List.{List, _++_}
+use Prim.Native.Nat.{ℕ, _+_, _*_, _≤_, _<_}
+use native.Mathlib.Omega.{arith}
+use lib.Dec.{eqb, ltb}
+use lib.ListN.{length, getD, take, drop}
+use borrow.Author.Tests.{le-ltb, eq-eqb, ne-eqb}
+use Rattle.bits.specs.Bits.{bitOf, bytesOf}
+use Rattle.bits.specs.Lists.{tabulate, written, firstAbove}
+use Rattle.bits.proofs.BitLaws.{Binary, same-bits, bytes-bits}
+use Rattle.bits.proofs.ListLaws.{length-tabulate, getD-tabulate, first-none, lowest-none}
+use Rattle.refusal.specs.declared.Refusal.the-variants.{Parity}
+use Rattle.refusal.specs.Report.{done, refused}
+use Rattle.refusal.specs.Outcome.{Outcome}
+use Rattle.refusal.proofs.OutcomeLaws.{outcome-good}
+use Rattle.card.specs.Card.{cardOf}
+use Rattle.card.specs.Modes.{blockBytes}
+use Rattle.card.specs.Entries.{versioned, defined}
+use Rattle.scrambler.specs.Scrambler.{scrambled}
+use Rattle.scrambler.proofs.ScramblerLaws.{scrambled-at, scrambled-twice, block-binary}
+use Rattle.interleaver.specs.Source.{codedBits}
+use Rattle.fec.specs.Coding.{dataBits, codedBit}
+use Rattle.fec.specs.Recovery.{dataBit, firstUndecided, disagreeing, recoverRows}
+use Rattle.bits.proofs.ListLaws.{take-written}
+use Rattle.fec.proofs.CodingLaws.{coded-binary}
+use Rattle.fec.proofs.RecoveryLaws.{clean-data, clean-rows, refused-parity}
+use Rattle.diversity.specs.Votes.{copies, wrongCopies, lostCopies}
+use Rattle.diversity.specs.Damage.{Damage}
+use Rattle.payload_layout.specs.Layouts.{items, Laid}
+use Rattle.payload_layout.specs.Items.{carries, carried, sentOn}
+use Rattle.payload_layout.proofs.ItemLaws.{clean as decided-clean, survives as decided-survives}
+use Rattle.payload.specs.Modes.{Served}
+use Rattle.payload.specs.Entries.{payloadCard, layoutOfCard, sentItem, send, decidedBit, blockMade, decidedBlock, read}
+use Rattle.payload.specs.Words.{GoodCard, Block, made}
+use Rattle.payload.proofs.ModeLaws.{mode-served, layout-bits, layout-within, layout-served}
+use Rattle.payload.proofs.EntryLaws.{send-passed, send-done, read-passed, read-decided, block-refused}
+
+-- the coded bits of a block under a card
+abbrev pub blockBits : List ℕ → List ℕ → ℕ → ℕ
+blockBits card block = codedBit (cardOf card .kind) (cardOf card .rate) (cardOf card .taps) (scrambled (bitOf block))
+
+-- a card of eleven bytes with a version and a mode that are defined, and a kind that is not frame control, is good
+pub good-card : (card : List ℕ) → length card ≡ 11 → versioned (cardOf card) ≡ true → defined (cardOf card) ≡ true → (cardOf card .kind ≡ 0 → ⊥) → GoodCard card
+unfolding payloadCard
+good-card card long version mode kind = rw (eq-eqb (length card) 11 long, version, mode, ne-eqb (cardOf card .kind) 0 kind)
+
+module _ (card : List ℕ) (good : GoodCard card) where
+  served : Served (cardOf card .band) (cardOf card .kind) (cardOf card .rate) (cardOf card .modulation)
+  served = mode-served card (cardOf card) good
+
+  laid : Laid (layoutOfCard card)
+  laid = layout-served (cardOf card .band) (cardOf card .kind) (cardOf card .rate) (cardOf card .modulation) served
+
+  -- no item of a damage is above 2
+  legal-none : (N : ℕ) (received : List ℕ) → Damage N received → firstAbove 2 received ≡ length received
+  legal-none N received damage = sym (first-none 2 received (λ k h. omega (arith, damage .legal k (omega (arith, damage .long)))))
+
+  -- reading legal items of the right number under a good card comes to the decided bits
+  pub read-good : (received back : List ℕ) → Damage (items (layoutOfCard card)) received → blockBytes (cardOf card .kind) ≤ length back
+      → read card received back ≡ decidedBlock (cardOf card .kind) (cardOf card .rate) (cardOf card .taps) (decidedBit (layoutOfCard card) received) back
+  read-good received back damage room =
+      read-passed card received back (cardOf card) good
+      ∙ read-decided (layoutOfCard card) (cardOf card .kind) (cardOf card .rate) (cardOf card .taps) received back (laid .within) (damage .long) room
+      (omega (arith, legal-none (items (layoutOfCard card)) received damage))
+
+  -- Refusal 8: where each coded bit is decided and parity disagrees, the count is the number of kept parity bits that disagree.
+  pub parity-counted : (received back : List ℕ) → Damage (items (layoutOfCard card)) received → blockBytes (cardOf card .kind) ≤ length back
+      → ((b : ℕ) → b < codedBits (cardOf card .kind) (cardOf card .rate) → decidedBit (layoutOfCard card) received b ≤ 1)
+      → 0 < disagreeing (cardOf card .kind) (cardOf card .rate) (cardOf card .taps) (decidedBit (layoutOfCard card) received)
+      → read card received back
+      ≡ record { report = refused 8 (disagreeing (cardOf card .kind) (cardOf card .rate) (cardOf card .taps) (decidedBit (layoutOfCard card) received)) 0; out = back }
+  unfolding firstUndecided
+  parity-counted received back damage room each some =
+      let kind = cardOf card .kind in
+      let rate = cardOf card .rate in
+      let taps = cardOf card .taps in
+      let e = decidedBit (layoutOfCard card) received in
+      let all : firstUndecided kind rate e ≡ codedBits kind rate = lowest-none (codedBits kind rate) (λ i. ltb 1 (e i)) (λ i h. le-ltb 1 (e i) (each i h)) in
+      read-good received back damage room
+      ∙ block-refused kind rate taps (served .defined) e back back (Parity (disagreeing kind rate taps e))
+      (ap (λ (o : Outcome ℕ (List ℕ)). o .report) (refused-parity kind rate taps e back (omega (arith, all)) some))
+
+  module _ (block : List ℕ) (is : Block (cardOf card .kind) block) where
+    -- sending a block under a good card
+    pub send-good : (out : List ℕ) → items (layoutOfCard card) ≤ length out
+        → send card block out
+        ≡ record {
+          report = done (items (layoutOfCard card));
+          out = written (items (layoutOfCard card)) (sentItem (layoutOfCard card) (cardOf card .kind) (cardOf card .rate) (cardOf card .taps) block) out;
+        }
+    send-good out room =
+        send-passed card block out (cardOf card) good
+        ∙ send-done (layoutOfCard card) (cardOf card .kind) (cardOf card .rate) (cardOf card .taps) block out (laid .within) (is .long) room
+
+    -- what was made, whatever lies beyond
+    pub made-is : (out : List ℕ) → items (layoutOfCard card) ≤ length out
+        → made card block out ≡ tabulate (items (layoutOfCard card)) (sentOn (layoutOfCard card) (blockBits card block))
+    unfolding sentItem
+    made-is out room =
+        ap (λ (o : Outcome ℕ (List ℕ)). take (items (layoutOfCard card)) (o .out)) (send-good out room)
+        ∙ take-written (items (layoutOfCard card)) (sentOn (layoutOfCard card) (blockBits card block)) out
+
+    scrambled-binary : Binary (dataBits (cardOf card .kind)) (scrambled (bitOf block))
+    scrambled-binary = block-binary block (dataBits (cardOf card .kind))
+
+    bits-binary : (b : ℕ) → blockBits card block b < 2
+    bits-binary = coded-binary (cardOf card .kind) (cardOf card .rate) (served .defined) (cardOf card .taps) (scrambled (bitOf block)) scrambled-binary
+
+    -- data bits that are the scrambled block's make the block
+    descrambled : (d : ℕ → ℕ) → ((k : ℕ) → k < dataBits (cardOf card .kind) → d k ≡ scrambled (bitOf block) k)
+        → bytesOf (blockBytes (cardOf card .kind)) (scrambled d) ≡ block
+    descrambled d same =
+        same-bits (blockBytes (cardOf card .kind)) (scrambled d) (bitOf block) (λ i h. scrambled-at d (scrambled (bitOf block)) i (same i h) ∙ scrambled-twice (bitOf block) i)
+        ∙ ap (λ (n : ℕ). bytesOf n (bitOf block)) (sym (is .long)) ∙ bytes-bits block (is .bytes)
+
+    -- a reception whose bits are all decided as sent
+    block-back : (received back : List ℕ) → Damage (items (layoutOfCard card)) received → blockBytes (cardOf card .kind) ≤ length back
+        → ((b : ℕ) → b < codedBits (cardOf card .kind) (cardOf card .rate) → decidedBit (layoutOfCard card) received b ≡ blockBits card block b)
+        → read card received back ≡ record { report = done (blockBytes (cardOf card .kind)); out = block ++ drop (blockBytes (cardOf card .kind)) back }
+    unfolding decidedBlock blockMade
+    block-back received back damage room same =
+        let kind = cardOf card .kind in
+        let rate = cardOf card .rate in
+        let e = decidedBit (layoutOfCard card) received in
+        read-good received back damage room
+        ∙ outcome-good {A = ℕ} (recoverRows kind rate (cardOf card .taps) e) back (blockBytes kind) (blockMade kind rate e back)
+        (clean-rows kind rate (served .defined) (cardOf card .taps) (scrambled (bitOf block)) scrambled-binary e same)
+        ∙ ap (λ (l : List ℕ). record { report = done (blockBytes kind); out = l ++ drop (blockBytes kind) back })
+        (descrambled (dataBit kind rate e) (clean-data kind rate (served .defined) (cardOf card .taps) (scrambled (bitOf block)) scrambled-binary e same))
+
+    -- Clean return: what was sent, read with the same card, answers 0 and gives the block.
+    pub clean : (out back : List ℕ) → items (layoutOfCard card) ≤ length out → blockBytes (cardOf card .kind) ≤ length back
+        → read card (made card block out) back ≡ record { report = done (blockBytes (cardOf card .kind)); out = block ++ drop (blockBytes (cardOf card .kind)) back }
+    unfolding decidedBit sentOn
+    clean out back room space = rw (made-is out room) (block-back sent back damage space as-sent)
+      where
+        sent : List ℕ
+        sent = tabulate (items (layoutOfCard card)) (sentOn (layoutOfCard card) (blockBits card block))
+
+        at-item : (n : ℕ) → n < items (layoutOfCard card) → getD sent n 0 ≡ sentOn (layoutOfCard card) (blockBits card block) n
+        at-item n h = getD-tabulate (items (layoutOfCard card)) (sentOn (layoutOfCard card) (blockBits card block)) n 0 h
+
+        sent-bit : (n : ℕ) → sentOn (layoutOfCard card) (blockBits card block) n < 2
+        sent-bit n = bits-binary (carried (layoutOfCard card) n)
+
+        damage : Damage (items (layoutOfCard card)) sent
+        damage = record { long = length-tabulate (items (layoutOfCard card)) _; legal = λ n h. omega (arith, at-item n h, sent-bit n) }
+
+        as-sent : (b : ℕ) → b < codedBits (cardOf card .kind) (cardOf card .rate) → decidedBit (layoutOfCard card) sent b ≡ blockBits card block b
+        as-sent b h =
+            decided-clean (layoutOfCard card) (blockBits card block) sent b (bits-binary b) laid
+            (rw (layout-bits (cardOf card .band) (cardOf card .kind) (cardOf card .rate) (cardOf card .modulation)) h) at-item
+
+    -- The law of the majority: legal items of which each coded bit has twice its wrong copies and its lost copies below its copies give
+    -- the block back exact.
+    pub survives : (out received back : List ℕ) → items (layoutOfCard card) ≤ length out → Damage (items (layoutOfCard card)) received → blockBytes (cardOf card .kind) ≤ length back
+        → ((b : ℕ) → b < codedBits (cardOf card .kind) (cardOf card .rate)
+        → 2 * wrongCopies (items (layoutOfCard card)) (carries (layoutOfCard card)) (made card block out) received b + lostCopies (items (layoutOfCard card)) (carries (layoutOfCard card)) received b
+        < copies (items (layoutOfCard card)) (carries (layoutOfCard card)) b)
+        → read card received back ≡ record { report = done (blockBytes (cardOf card .kind)); out = block ++ drop (blockBytes (cardOf card .kind)) back }
+    unfolding decidedBit
+    survives out received back room damage space few =
+        block-back received back damage space (λ b h.
+        decided-survives (layoutOfCard card) (blockBits card block) received b (bits-binary b) (damage .legal) (rw (made-is out room) at (few b h)))

@@ -1,0 +1,25 @@
+-- `payload::block_layout` meets its contract: a served mode has few coded bits. Assumes nothing.
+use mathlib.Core.Path.{_≡_, ap, _∙_}
+use Prim.Native.Nat.{ℕ}
+use native.Mathlib.Omega.{arith}
+use Rattle.interleaver.proofs.InterleaverLaws.{coded-le}
+use Rattle.payload_layout.specs.Layouts.{layoutOf}
+use borrow.Author.Needs.{needs}
+use Rattle.payload.proofs.block_layout.Statement.{statement}
+use Rattle.payload.proofs.block_layout.Tie as tie
+
+coded-bits-requires : tie.Need-coded-bits-requires
+coded-bits-requires c κs = search needs
+
+layout-of-requires : tie.Need-layout-of-requires
+layout-of-requires c κs =
+    let z = c .before in
+    (z .pre .band-lt, z .pre .modulation-lt, omega (arith, c .coded-bits .ensures, coded-le (z .args .kind) (z .args .rate) (z .pre .defined)))
+
+returns : tie.Need-returns
+returns c =
+    let z = c .before .before in
+    c .layout-of .ensures ∙ ap (λ (n : ℕ). layoutOf (z .args .band) (z .args .modulation) n) (c .before .coded-bits .ensures)
+
+pub block-layout-spec : {M : Type 1} → statement M
+block-layout-spec = tie.close (tie.spec coded-bits-requires layout-of-requires returns)

@@ -1,0 +1,187 @@
+// One payload block of 72, 136, 264 or 520 bytes: from its bytes to items on carriers, and from received items back to its bytes.
+//
+// Public entries: `send` and `read`. Nothing else is `pub`.
+use card::CardRead;
+use payload_layout::Layout;
+use refusal::Answer;
+use refusal::Refusal;
+ghost use mathlib.Core.Path.{_≡_};
+ghost use Prim.Native.Nat.{_≤_};
+ghost use lib.ListN.{length};
+ghost use Rattle.bits.specs.Lists.{written};
+ghost use Rattle.refusal.specs.Report.{answer};
+ghost use Rattle.card.specs.Entries.{cardRead};
+ghost use Rattle.card.specs.Modes.{blockBytes};
+ghost use Rattle.interleaver.specs.Layouts.{Defined};
+ghost use Rattle.interleaver.specs.Source.{codedBits};
+ghost use Rattle.payload_layout.specs.Layouts.{items as itemsOf, Laid};
+ghost use Rattle.payload.specs.Modes.{Served};
+ghost use Rattle.payload.specs.Entries.{payloadCard, blockLayout, sentItem, sendBy, send as sendOutcome, decidedBit, decidedBlock, readBy, read as readOutcome};
+
+// The card in some bytes, or refusal 1, 2 or 3. Frame control is not served here.
+fn payload_card(card: &[u8]) -> CardRead
+    ensures { λ r. ⌜ cardRead r ≡ payloadCard (now (card .entry)) ⌝ }
+{
+    match card::read_card(card) {
+        CardRead::Refused(r) => CardRead::Refused(r),
+        CardRead::Good(c) => {
+            if c.kind == 0 {
+                return CardRead::Refused(Refusal::Mode);
+            }
+            CardRead::Good(c)
+        }
+    }
+}
+
+// The layout of a block's coded bits.
+fn block_layout(band: usize, kind: usize, rate: usize, modulation: usize) -> Layout
+    requires { ⌜ Served band kind rate modulation ⌝ }
+    ensures { λ l. ⌜ l ≡ blockLayout band kind rate modulation ⌝ }
+{
+    let coded = interleaver::coded_bits(kind, rate);
+    payload_layout::layout_of(band, modulation, coded)
+}
+
+// ---- sending
+
+// The items of a block at the start of `out`: scrambled, coded and laid out.
+fn send_items(l: Layout, kind: usize, rate: usize, taps: u16, block: &[u8], out: &mut [u8])
+    requires { ⌜ (Defined kind rate) × (Laid l) × (l .coded ≡ codedBits kind rate) × (length (now block) ≡ blockBytes kind) × (itemsOf l ≤ length (now out)) ⌝ }
+    ensures { λ _. ⌜ now (out .exit) ≡ written (itemsOf l) (sentItem l kind rate taps (now (block .entry))) (now (out .entry)) ⌝ }
+{
+    let size = block.len();
+    let mut scrambled = [0u8; 520];
+    scrambler::scramble(block, &mut scrambled);
+    let mut coded = [0u8; 8320];
+    fec::encode(kind, rate, taps, &scrambled[..size], &mut coded);
+    let count = l.coded;
+    payload_layout::send(l, &coded[..count], out);
+}
+
+// Sending behind the card's checks: refusal 9, 4 or 5, or the items.
+fn send_by(
+    band: usize,
+    kind: usize,
+    rate: usize,
+    modulation: usize,
+    taps: u16,
+    block: &[u8],
+    out: &mut [u8],
+) -> Answer
+    requires { ⌜ Served band kind rate modulation ⌝ }
+    ensures answer { λ r. ⌜ answer r ≡ sendBy (blockLayout band kind rate modulation) kind rate taps (now (block .entry)) (now (out .entry)) .report ⌝ }
+    ensures items { λ _. ⌜ now (out .exit) ≡ sendBy (blockLayout band kind rate modulation) kind rate taps (now (block .entry)) (now (out .entry)) .out ⌝ }
+{
+    let l = block_layout(band, kind, rate, modulation);
+    if l.coded < l.pad {
+        return Answer::Refused(Refusal::Pad(l.pad));
+    }
+    let size = card::block_bytes(kind);
+    let needed = payload_layout::item_count(l);
+    if block.len() != size {
+        return Answer::Refused(Refusal::Length(block.len()));
+    }
+    if out.len() < needed {
+        return Answer::Refused(Refusal::Room(needed));
+    }
+    send_items(l, kind, rate, taps, block, out);
+    Answer::Done(needed)
+}
+
+// The items of a block at the start of `out`, or refusal 1, 2, 3, 9, 4 or 5.
+pub fn send(card: &[u8], block: &[u8], out: &mut [u8]) -> Answer
+    ensures answer { λ r. ⌜ answer r ≡ sendOutcome (now (card .entry)) (now (block .entry)) (now (out .entry)) .report ⌝ }
+    ensures items { λ _. ⌜ now (out .exit) ≡ sendOutcome (now (card .entry)) (now (block .entry)) (now (out .entry)) .out ⌝ }
+{
+    match payload_card(card) {
+        CardRead::Refused(r) => Answer::Refused(r),
+        CardRead::Good(c) => send_by(
+            c.band as usize,
+            c.kind as usize,
+            c.rate as usize,
+            c.modulation as usize,
+            c.taps as u16,
+            block,
+            out,
+        ),
+    }
+}
+
+// ---- reading
+
+// The block of legal items at the start of `out`, or refusal 7 or 8: decided, decoded and descrambled.
+fn read_items(
+    l: Layout,
+    kind: usize,
+    rate: usize,
+    taps: u16,
+    items: &[u8],
+    out: &mut [u8],
+) -> Answer
+    requires { ⌜ (Defined kind rate) × (Laid l) × (l .coded ≡ codedBits kind rate) × (length (now items) ≡ itemsOf l) × (blockBytes kind ≤ length (now out)) ⌝ }
+    ensures answer { λ r. ⌜ answer r ≡ decidedBlock kind rate taps (decidedBit l (now (items .entry))) (now (out .entry)) .report ⌝ }
+    ensures bytes { λ _. ⌜ now (out .exit) ≡ decidedBlock kind rate taps (decidedBit l (now (items .entry))) (now (out .entry)) .out ⌝ }
+{
+    let mut decided = [0u8; 8320];
+    payload_layout::decide(l, items, &mut decided);
+    let count = l.coded;
+    let mut block = [0u8; 520];
+    match fec::recover(kind, rate, taps, &decided[..count], &mut block) {
+        Answer::Refused(r) => Answer::Refused(r),
+        Answer::Done(size) => {
+            scrambler::scramble(&block[..size], out);
+            Answer::Done(size)
+        }
+    }
+}
+
+// Reading behind the card's checks: refusal 9, 4, 5, 6, 7 or 8, or the block.
+fn read_by(
+    band: usize,
+    kind: usize,
+    rate: usize,
+    modulation: usize,
+    taps: u16,
+    items: &[u8],
+    out: &mut [u8],
+) -> Answer
+    requires { ⌜ Served band kind rate modulation ⌝ }
+    ensures answer { λ r. ⌜ answer r ≡ readBy (blockLayout band kind rate modulation) kind rate taps (now (items .entry)) (now (out .entry)) .report ⌝ }
+    ensures bytes { λ _. ⌜ now (out .exit) ≡ readBy (blockLayout band kind rate modulation) kind rate taps (now (items .entry)) (now (out .entry)) .out ⌝ }
+{
+    let l = block_layout(band, kind, rate, modulation);
+    if l.coded < l.pad {
+        return Answer::Refused(Refusal::Pad(l.pad));
+    }
+    if items.len() != payload_layout::item_count(l) {
+        return Answer::Refused(Refusal::Length(items.len()));
+    }
+    let size = card::block_bytes(kind);
+    if out.len() < size {
+        return Answer::Refused(Refusal::Room(size));
+    }
+    let illegal = bits::first_above(items, 2);
+    if illegal < items.len() {
+        return Answer::Refused(Refusal::Item(illegal));
+    }
+    read_items(l, kind, rate, taps, items, out)
+}
+
+// The block of received items at the start of `out`, or any refusal of the table.
+pub fn read(card: &[u8], items: &[u8], out: &mut [u8]) -> Answer
+    ensures answer { λ r. ⌜ answer r ≡ readOutcome (now (card .entry)) (now (items .entry)) (now (out .entry)) .report ⌝ }
+    ensures bytes { λ _. ⌜ now (out .exit) ≡ readOutcome (now (card .entry)) (now (items .entry)) (now (out .entry)) .out ⌝ }
+{
+    match payload_card(card) {
+        CardRead::Refused(r) => Answer::Refused(r),
+        CardRead::Good(c) => read_by(
+            c.band as usize,
+            c.kind as usize,
+            c.rate as usize,
+            c.modulation as usize,
+            c.taps as u16,
+            items,
+            out,
+        ),
+    }
+}

@@ -1,0 +1,601 @@
+//! Frame control and payload: sent and read, with good and bad cards, lengths, rooms and items.
+
+use reference::card::{self, CARD_BYTES};
+use reference::cases::{altered_and_lost, modes, Mode, Random, Reception};
+use reference::interface::Entry;
+use reference::Report;
+
+use crate::cards::{all_lengths, any_card, any_room, card_with};
+use crate::checker::Checker;
+
+/// Room for any answer.
+const AMPLE: usize = 9_900;
+
+/// Taps of the systematic calls: none, all, each alone, and some mixed.
+const TAPS: [u16; 17] = [
+    0, 2047, 1, 2, 4, 8, 16, 32, 64, 128, 256, 512, 1024, 1095, 682, 1365, 731,
+];
+
+/// Any mode; frame control as often as each payload kind.
+fn any_mode(random: &mut Random) -> Mode {
+    let kind = random.below(5) as u8;
+    let of_kind: Vec<Mode> = modes().into_iter().filter(|m| m.kind == kind).collect();
+    random.pick(&of_kind)
+}
+
+fn any_taps(random: &mut Random) -> u16 {
+    if random.once_in(3) {
+        random.pick(&TAPS)
+    } else {
+        random.below(2048) as u16
+    }
+}
+
+/// Any block: random, all alike, or one bit set.
+fn any_block(length: usize, random: &mut Random) -> Vec<u8> {
+    let mut block = vec![0; length];
+    match random.below(6) {
+        0 => block.fill(random.pick(&[0, 0xFF, 0x55, 0xAA])),
+        1 => block[random.below(length)] = 1 << random.below(8),
+        _ => block = random.bytes(length),
+    }
+    block
+}
+
+/// A reception of any mode, as it was sent.
+fn any_reception(random: &mut Random) -> Reception {
+    let mode = any_mode(random);
+    let card = mode.card(any_taps(random), random.word_of_any_size());
+    Reception::new(mode, card, any_block(mode.bytes(), random))
+}
+
+/// The mode of a good card.
+fn mode_of(card: &[u8]) -> Option<Mode> {
+    let card = card::read(card).ok()?;
+    Some(Mode {
+        band: card.band,
+        kind: card.kind,
+        rate: card.rate,
+        modulation: card.modulation,
+    })
+}
+
+/// The lengths of input and output that a card asks for at an entry.
+fn lengths(mode: Mode, entry: Entry) -> (usize, usize) {
+    if entry.sends() {
+        (mode.bytes(), mode.items())
+    } else {
+        (mode.items(), mode.bytes())
+    }
+}
+
+/// Any input of a length: bytes to send, or items received, most of them legal.
+fn any_input(entry: Entry, length: usize, random: &mut Random) -> Vec<u8> {
+    if entry.sends() || random.once_in(4) {
+        random.bytes(length)
+    } else {
+        (0..length).map(|_| random.below(3) as u8).collect()
+    }
+}
+
+/// Reads a reception, most often with the room it needs.
+fn read(checker: &mut Checker, reception: &Reception) -> (Report, Vec<u8>) {
+    let needed = reception.mode.bytes();
+    let room = if checker.random.once_in(4) {
+        any_room(needed, &mut checker.random)
+    } else {
+        needed
+    };
+    let entry = reception.mode.entries().1;
+    checker.entry(entry, &reception.card, &reception.items, room)
+}
+
+// Cards.
+
+/// A card at an entry with an input as the card asks for, or else as the entry may.
+fn card_at(checker: &mut Checker, entry: Entry, card: &[u8], room: usize) {
+    let (length, _) = match mode_of(card) {
+        Some(mode) => lengths(mode, entry),
+        None => lengths(any_mode(&mut checker.random), entry),
+    };
+    let input = if checker.random.once_in(2) {
+        vec![0; length]
+    } else {
+        any_input(entry, length, &mut checker.random)
+    };
+    checker.entry(entry, card, &input, room);
+}
+
+/// At each entry every mode that fits its bits, every version and spare bit, every length.
+pub fn cards_systematic(checker: &mut Checker) {
+    for entry in Entry::ALL {
+        for mode in 0..256 {
+            let card = card_with(1, mode, 0, &mut checker.random);
+            card_at(checker, entry, &card, AMPLE);
+        }
+        for version in 0..16 {
+            for spare in 0..2 {
+                // Kind 0 with QPSK, and kind 1 with QPSK.
+                for mode in [1, 9] {
+                    let card = card_with(version, mode, spare, &mut checker.random);
+                    card_at(checker, entry, &card, AMPLE);
+                }
+            }
+        }
+        for card in all_lengths(&mut checker.random) {
+            card_at(checker, entry, &card, AMPLE);
+        }
+    }
+}
+
+pub fn cards_random(checker: &mut Checker) {
+    let card = any_card(&mut checker.random);
+    let entry = checker.random.pick(&Entry::ALL);
+    let room = checker.random.pick(&[AMPLE, AMPLE, 0, 16, 72, 520]);
+    card_at(checker, entry, &card, room);
+}
+
+// Lengths and rooms.
+
+/// All right lengths of an entry's input, with one less and one more.
+fn all_input_lengths(entry: Entry) -> Vec<usize> {
+    let mut all = vec![0, 1];
+    for mode in modes() {
+        let (length, _) = lengths(mode, entry);
+        all.extend([length - 1, length, length + 1]);
+    }
+    all.sort_unstable();
+    all.dedup();
+    all
+}
+
+/// Each mode with every length that is right for some mode, and with each room about its own.
+pub fn lengths_systematic(checker: &mut Checker) {
+    for mode in modes() {
+        let (send, read) = mode.entries();
+        for entry in [send, read] {
+            let card = mode.card(any_taps(&mut checker.random), checker.random.word());
+            let (right, needed) = lengths(mode, entry);
+            for length in all_input_lengths(entry) {
+                let input = any_input(entry, length, &mut checker.random);
+                let room = checker.random.pick(&[0, needed - 1, needed, needed + 1]);
+                checker.entry(entry, &card, &input, room);
+            }
+            for room in [0, 1, needed / 2, needed - 1, needed, needed + 1, AMPLE] {
+                checker.entry(entry, &card, &vec![0; right], room);
+            }
+        }
+    }
+}
+
+/// A length that is wrong in some likely way, or right.
+fn any_length(entry: Entry, right: usize, random: &mut Random) -> usize {
+    match random.below(8) {
+        0 => right - 1,
+        1 => right + 1,
+        2 => random.pick(&all_input_lengths(entry)),
+        3 => right + 256 * random.within(1..10),
+        4 if random.once_in(10) => right + 65536,
+        5 => random.below(2 * right),
+        _ => right,
+    }
+}
+
+pub fn lengths_random(checker: &mut Checker) {
+    let random = &mut checker.random;
+    let mode = any_mode(random);
+    let (send, read) = mode.entries();
+    let entry = random.pick(&[send, read]);
+    let (right, needed) = lengths(mode, entry);
+    let length = any_length(entry, right, random);
+    let input = any_input(entry, length, random);
+    let card = mode.card(any_taps(random), random.word());
+    let room = any_room(needed, random);
+    checker.entry(entry, &card, &input, room);
+}
+
+// Sending and clean receptions.
+
+/// Every taps on frame control, and single taps with single bits on every mode.
+pub fn sending_systematic(checker: &mut Checker) {
+    for taps in 0..2048 {
+        let mode = Mode::frame_control((taps % 2) as u8);
+        let block = checker.random.bytes(mode.bytes());
+        checker.entry(Entry::FcSend, &mode.card(taps, 1), &block, mode.items());
+    }
+    for mode in modes() {
+        for taps in TAPS {
+            let block = any_block(mode.bytes(), &mut checker.random);
+            let entry = mode.entries().0;
+            checker.entry(entry, &mode.card(taps, 0), &block, mode.items());
+        }
+    }
+}
+
+pub fn sending_random(checker: &mut Checker) {
+    let random = &mut checker.random;
+    let mode = any_mode(random);
+    let block = any_block(mode.bytes(), random);
+    let card = mode.card(any_taps(random), random.word_of_any_size());
+    let room = any_room(mode.items(), random);
+    checker.entry(mode.entries().0, &card, &block, room);
+}
+
+/// What the library sends comes back by the library.
+fn there_and_back(checker: &mut Checker, reception: &Reception) {
+    let (mode, card) = (reception.mode, &reception.card);
+    let (send, read) = mode.entries();
+    let (_, made) = checker.entry(send, card, &reception.block, mode.items());
+    let (report, block) = checker.entry(read, card, &made, mode.bytes());
+    let came_back = report == Report::done(mode.bytes()) && block == reception.block;
+    checker.claim(
+        came_back,
+        || format!("{mode:?} card {card:02x?} block {:02x?}", reception.block),
+        "what was sent did not come back",
+    );
+}
+
+pub fn clean_systematic(checker: &mut Checker) {
+    for mode in modes() {
+        for taps in TAPS {
+            let block = any_block(mode.bytes(), &mut checker.random);
+            let card = mode.card(taps, checker.random.word());
+            there_and_back(checker, &Reception::new(mode, card, block));
+        }
+    }
+}
+
+pub fn clean_random(checker: &mut Checker) {
+    let reception = any_reception(&mut checker.random);
+    there_and_back(checker, &reception);
+}
+
+// Illegal items.
+
+fn no_item(random: &mut Random) -> u8 {
+    let any = random.within(3..256) as u8;
+    random.pick(&[3, 4, 128, 129, 130, 254, 255, any])
+}
+
+/// On frame control at every index, on payload at both ends and at some others.
+pub fn illegal_systematic(checker: &mut Checker) {
+    for mode in modes() {
+        let reception = Reception::random(mode, &mut checker.random);
+        let last = mode.items() - 1;
+        let indices: Vec<usize> = if mode.kind == 0 {
+            (0..=last).collect()
+        } else {
+            vec![
+                0,
+                1,
+                mode.coded() - 1,
+                mode.coded(),
+                last / 2,
+                last - 1,
+                last,
+            ]
+        };
+        for index in indices {
+            let mut spoilt = reception.clone();
+            spoilt.items[index] = no_item(&mut checker.random);
+            read(checker, &spoilt);
+        }
+    }
+}
+
+pub fn illegal_random(checker: &mut Checker) {
+    let random = &mut checker.random;
+    let mut reception = any_reception(random);
+    match random.below(3) {
+        0 => lose_some_bits(&mut reception, random),
+        1 => flip_some_bits(&mut reception, random),
+        _ => {}
+    }
+    for _ in 0..random.within(1..4) {
+        let index = random.below(reception.items.len());
+        reception.items[index] = no_item(random);
+    }
+    read(checker, &reception);
+}
+
+// Damage around the majority limit.
+
+/// Numbers of wrong and lost copies about the limit of so many copies.
+fn about_the_limit(copies: usize, random: &mut Random) -> (usize, usize) {
+    let any = random.below(copies + 1);
+    let lost = random.pick(&[0, 0, 1, 2, any]).min(copies);
+    let left = copies - lost;
+    let wrong = (left / 2 + random.below(3)).saturating_sub(1).min(left);
+    (wrong, lost)
+}
+
+/// Every bit of frame control with 5, 6 and 7 wrong copies; on payload every pair of items for
+/// bits with two copies.
+pub fn limit_systematic(checker: &mut Checker) {
+    for mode in modes() {
+        let reception = Reception::random(mode, &mut checker.random);
+        if mode.kind == 0 {
+            limit_of_frame_control(checker, &reception);
+        } else {
+            limit_of_pad(checker, &reception);
+        }
+    }
+}
+
+fn limit_of_frame_control(checker: &mut Checker, reception: &Reception) {
+    for bit in 0..reception.mode.coded() {
+        for wrong in 5..=7 {
+            let mut damaged = reception.clone();
+            damaged.damage_bit(bit, wrong, 0, &mut checker.random);
+            read(checker, &damaged);
+        }
+    }
+}
+
+fn limit_of_pad(checker: &mut Checker, reception: &Reception) {
+    let mode = reception.mode;
+    for bit in [0, mode.pad() / 2, mode.pad() - 1] {
+        for first in 0..3 {
+            for second in 0..3 {
+                let mut damaged = reception.clone();
+                damaged.items[bit] = first;
+                damaged.items[mode.coded() + bit] = second;
+                read(checker, &damaged);
+            }
+        }
+    }
+}
+
+pub fn limit_random(checker: &mut Checker) {
+    let random = &mut checker.random;
+    let mut reception = any_reception(random);
+    let mode = reception.mode;
+    for _ in 0..random.within(1..6) {
+        // On payload only the first bits have two copies.
+        let bits = if mode.kind > 0 {
+            mode.pad()
+        } else {
+            mode.coded()
+        };
+        let bit = random.below(bits);
+        let (wrong, lost) = about_the_limit(mode.copies(bit).len(), random);
+        reception.damage_bit(bit, wrong, lost, random);
+    }
+    read(checker, &reception);
+}
+
+// Demand 3.
+
+/// A frame control as the library itself made it, or None where it refused.
+fn made_by_library(checker: &mut Checker) -> Option<Reception> {
+    let random = &mut checker.random;
+    let mode = Mode::frame_control(random.below(2) as u8);
+    let card = mode.card(any_taps(random), random.word());
+    let block = any_block(mode.bytes(), random);
+    let room = mode.items() + random.below(3);
+    let (report, mut sent) = checker.entry(Entry::FcSend, &card, &block, room);
+    sent.truncate(mode.items());
+    let items = sent.clone();
+    (report == Report::done(mode.items())).then_some(Reception {
+        mode,
+        card,
+        block,
+        sent,
+        items,
+    })
+}
+
+fn described(reception: &Reception) -> String {
+    let digits: String = reception.items.iter().map(u8::to_string).collect();
+    format!(
+        "frame control on band {} card {:02x?} word {:02x?} items {digits}",
+        reception.mode.band, reception.card, reception.block
+    )
+}
+
+/// Carriers to damage: those of one bit, of two bits, or all.
+fn carriers_to_damage(mode: Mode, random: &mut Random) -> Vec<usize> {
+    let carriers_of =
+        |bit| -> Vec<usize> { mode.copies(bit).iter().map(|item| item / 2).collect() };
+    match random.below(4) {
+        0 => (0..mode.items() / 2).collect(),
+        1 => {
+            let mut carriers = carriers_of(random.below(256));
+            carriers.extend(carriers_of(random.below(256)));
+            carriers.sort_unstable();
+            carriers.dedup();
+            carriers
+        }
+        _ => carriers_of(random.below(256)),
+    }
+}
+
+/// Twice the altered and the lost below 12: it comes back exactly.
+pub fn comes_back_random(checker: &mut Checker) {
+    let Some(mut reception) = made_by_library(checker) else {
+        return;
+    };
+    let random = &mut checker.random;
+    let any = random.below(12);
+    let weight = random.pick(&[11, 11, 10, any]);
+    let (altered, lost) = altered_and_lost(weight, random);
+    let carriers = carriers_to_damage(reception.mode, random);
+    reception.damage_carriers(&carriers, altered, lost, random);
+    let room = 16 + random.below(3);
+    let (report, out) = checker.entry(Entry::FcRead, &reception.card, &reception.items, room);
+    checker.claim(
+        report == Report::done(16) && out[..16] == reception.block,
+        || described(&reception),
+        "demand 3: it did not come back",
+    );
+}
+
+/// All copies of a bit that has exactly 12 lost: refused by 7. The other items of those carriers
+/// all carry the bit 128 further on; where they are lost too, the lower of both bits is named.
+fn lose_all_copies(checker: &mut Checker, mut reception: Reception, bit: usize) {
+    let random = &mut checker.random;
+    let any = random.below(13);
+    let others = random.pick(&[0, 0, 12, any]);
+    let copies = reception.mode.copies(bit);
+    for (n, &item) in copies.iter().enumerate() {
+        reception.lose(item);
+        if n < others {
+            reception.lose(item ^ 1);
+        }
+    }
+    let lowest = if others >= 12 { bit % 128 } else { bit };
+    let room = 16 + random.below(3);
+    let (report, _) = checker.entry(Entry::FcRead, &reception.card, &reception.items, room);
+    checker.claim(
+        report == Report::refused(7, lowest as u64),
+        || described(&reception),
+        "demand 3: a bit without copies was not refused by 7",
+    );
+}
+
+/// Each bit that has exactly 12 copies, on both bands.
+pub fn lost_bit_systematic(checker: &mut Checker) {
+    for band in 0..2 {
+        let mode = Mode::frame_control(band);
+        let reception = Reception::random(mode, &mut checker.random);
+        for bit in (0..256).filter(|&bit| mode.copies(bit).len() == 12) {
+            lose_all_copies(checker, reception.clone(), bit);
+        }
+    }
+}
+
+pub fn lost_bit_random(checker: &mut Checker) {
+    let Some(reception) = made_by_library(checker) else {
+        return;
+    };
+    let bit = loop {
+        let bit = checker.random.below(256);
+        if reception.mode.copies(bit).len() == 12 {
+            break bit;
+        }
+    };
+    lose_all_copies(checker, reception, bit);
+}
+
+// Undecided and parity-wrong receptions.
+
+/// One to three bits without a majority.
+fn lose_some_bits(reception: &mut Reception, random: &mut Random) {
+    for _ in 0..random.within(1..4) {
+        let bit = random.below(reception.mode.coded());
+        if reception.mode.copies(bit).len() > 1 && random.once_in(2) {
+            reception.tie_bit(bit, random);
+        } else {
+            reception.lose_bit(bit);
+        }
+    }
+}
+
+/// Bits decided wrongly, from one to all: of data, of parity or of both.
+fn flip_some_bits(reception: &mut Reception, random: &mut Random) {
+    let mode = reception.mode;
+    let bits = match random.below(3) {
+        0 => mode.coded_bits_of(false),
+        1 => mode.coded_bits_of(true),
+        _ => (0..mode.coded()).collect(),
+    };
+    let count = match random.below(4) {
+        0 => 1,
+        1 if mode.kind > 0 => random.within(1..bits.len() + 1),
+        _ => random.within(1..20),
+    };
+    for bit in random.some_of(&bits, count) {
+        reception.flip_bit(bit);
+    }
+}
+
+/// In every mode: single bits lost, the first, the last and those about the pad.
+pub fn undecided_systematic(checker: &mut Checker) {
+    for mode in modes() {
+        let reception = Reception::random(mode, &mut checker.random);
+        let some = checker.random.below(mode.coded());
+        let pad = mode.pad();
+        for bit in [0, 1, pad.saturating_sub(1), pad, some, mode.coded() - 1] {
+            let mut damaged = reception.clone();
+            damaged.lose_bit(bit);
+            read(checker, &damaged);
+        }
+        let mut all_lost = reception.clone();
+        all_lost.items.fill(2);
+        read(checker, &all_lost);
+    }
+}
+
+pub fn undecided_random(checker: &mut Checker) {
+    let random = &mut checker.random;
+    let mut reception = any_reception(random);
+    if random.once_in(3) {
+        flip_some_bits(&mut reception, random);
+    }
+    lose_some_bits(&mut reception, random);
+    read(checker, &reception);
+}
+
+/// In every mode and with various taps: one wrong data bit, one wrong parity bit, all parity wrong.
+pub fn parity_systematic(checker: &mut Checker) {
+    for mode in modes() {
+        let (data, parity) = (mode.coded_bits_of(false), mode.coded_bits_of(true));
+        for taps in TAPS {
+            let block = any_block(mode.bytes(), &mut checker.random);
+            let reception = Reception::new(mode, mode.card(taps, 7), block);
+            let one_data = [checker.random.pick(&data)];
+            let one_parity = [checker.random.pick(&parity)];
+            for wrong in [&one_data[..], &one_parity[..], &parity[..]] {
+                let mut damaged = reception.clone();
+                for &bit in wrong {
+                    damaged.flip_bit(bit);
+                }
+                read(checker, &damaged);
+            }
+        }
+    }
+}
+
+pub fn parity_random(checker: &mut Checker) {
+    let random = &mut checker.random;
+    let mut reception = any_reception(random);
+    flip_some_bits(&mut reception, random);
+    read(checker, &reception);
+}
+
+// Any items.
+
+/// Items of any kind: all alike, any legal ones, many damaged, or sent with another card.
+pub fn any_items_random(checker: &mut Checker) {
+    let random = &mut checker.random;
+    let mut reception = any_reception(random);
+    match random.below(5) {
+        0 => reception.items.fill(random.pick(&[0, 1, 2, 3])),
+        1 => {
+            // Mostly one bit, with more or fewer of the others.
+            let (most, of) = (random.below(2) as u8, random.within(2..20));
+            for item in &mut reception.items {
+                *item = if random.once_in(of) {
+                    random.below(3) as u8
+                } else {
+                    most
+                };
+            }
+        }
+        2 => {
+            for item in &mut reception.items {
+                *item = random.below(2) as u8;
+            }
+        }
+        3 => {
+            let share = random.within(3..400);
+            for item in &mut reception.items {
+                if random.once_in(share) {
+                    *item = random.below(3) as u8;
+                }
+            }
+        }
+        _ => reception.card[1 + random.below(CARD_BYTES - 1)] ^= 1 << random.below(8),
+    }
+    read(checker, &reception);
+}

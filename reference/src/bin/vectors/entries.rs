@@ -1,0 +1,406 @@
+//! The records of entries.bin: what they cover, and in which order. The same on every run.
+
+use reference::card;
+use reference::cases::{altered_and_lost, modes, Mode, Random, Reception};
+use reference::interface::{Entry, CARD_FIELDS, COORDINATES};
+
+use crate::record::{Call, Record};
+use crate::text::{coordinates, modulations};
+
+const SEED: u64 = 11612;
+
+/// Taps that the modes use in turn.
+const TAPS: [u16; 7] = [1095, 2047, 682, 1365, 731, 0, 1234];
+
+/// Room for any answer.
+const AMPLE: usize = 9_900;
+
+/// All records.
+pub fn records() -> Vec<Record> {
+    let mut maker = Maker {
+        records: Vec::new(),
+        random: Random::new(SEED),
+    };
+    for (n, mode) in modes().into_iter().enumerate() {
+        maker.mode(mode, TAPS[n % TAPS.len()]);
+    }
+    for band in 0..2 {
+        maker.demand_3(Mode::frame_control(band));
+        maker.without_taps(Mode::frame_control(band));
+    }
+    maker.without_taps(modes()[1]);
+    maker.cards_at_the_entries();
+    maker.cards();
+    maker.points();
+    maker.slices();
+    maker.records
+}
+
+/// The records so far and the numbers they are made from.
+struct Maker {
+    records: Vec<Record>,
+    random: Random,
+}
+
+impl Maker {
+    fn add(&mut self, call: Call, card: &[u8], input: &[u8], room: usize) {
+        self.records.push(Record::new(call, card, input, room));
+    }
+
+    /// A mode: sent, and read in each way.
+    fn mode(&mut self, mode: Mode, taps: u16) {
+        let card = mode.card(taps, self.random.word());
+        let block = self.random.bytes(mode.bytes());
+        let reception = Reception::new(mode, card, block);
+        self.sent(&reception);
+        self.sent_wrongly(&reception);
+        self.read(&reception);
+        self.read_wrongly(&reception);
+        self.damaged(&reception);
+    }
+
+    /// Done, with exact room, one more or ample.
+    fn sent(&mut self, reception: &Reception) {
+        let mode = reception.mode;
+        let (send, needed) = (Call::Entry(mode.entries().0), mode.items());
+        let room = self.random.pick(&[needed, needed + 1, AMPLE]);
+        self.add(send, &reception.card, &reception.block, room);
+    }
+
+    /// Both sides of the length, then rooms that are too small.
+    fn sent_wrongly(&mut self, reception: &Reception) {
+        let (mode, card) = (reception.mode, &reception.card);
+        let (send, needed) = (Call::Entry(mode.entries().0), mode.items());
+        let mut longer = reception.block.clone();
+        longer.push(0x5A);
+        for length in [mode.bytes() - 1, mode.bytes() + 1] {
+            self.add(send, card, &longer[..length], needed);
+        }
+        self.add(send, card, &[], needed);
+        // Length goes before room.
+        self.add(send, card, &longer, 0);
+        self.add(send, card, &reception.block, needed - 1);
+        self.add(send, card, &reception.block, 0);
+    }
+
+    /// Done, with exact room or one more.
+    fn read(&mut self, reception: &Reception) {
+        let mode = reception.mode;
+        let room = mode.bytes() + self.random.below(2);
+        let read = Call::Entry(mode.entries().1);
+        self.add(read, &reception.card, &reception.items, room);
+    }
+
+    /// Both sides of the length, then rooms that are too small. The room depends on the kind alone,
+    /// so one modulation will do.
+    fn read_wrongly(&mut self, reception: &Reception) {
+        let (mode, card) = (reception.mode, &reception.card);
+        let (read, needed) = (Call::Entry(mode.entries().1), mode.bytes());
+        let mut longer = reception.items.clone();
+        longer.push(1);
+        for length in [mode.items() - 1, mode.items() + 1] {
+            self.add(read, card, &longer[..length], needed);
+        }
+        self.add(read, card, &[], needed);
+        if mode.modulation == 1 {
+            self.add(read, card, &reception.items, needed - 1);
+        }
+    }
+
+    /// Damaged but decided, undecided, parity wrong, and an illegal item.
+    fn damaged(&mut self, reception: &Reception) {
+        for damage in [decided, undecided, parity_wrong, illegal] {
+            let mut damaged = reception.clone();
+            damage(&mut damaged, &mut self.random);
+            self.read(&damaged);
+        }
+    }
+
+    /// Damage of frame control below the limit of demand 3, at it, and bits that are lost.
+    fn demand_3(&mut self, mode: Mode) {
+        let reception = Reception::random(mode, &mut self.random);
+        for weight in [1, 10, 11, 11, 11, 12, 12] {
+            let bit = self.random.below(256);
+            let carriers: Vec<usize> = mode.copies(bit).iter().map(|item| item / 2).collect();
+            let (altered, lost) = altered_and_lost(weight, &mut self.random);
+            let mut damaged = reception.clone();
+            damaged.damage_carriers(&carriers, altered, lost, &mut self.random);
+            self.read(&damaged);
+        }
+        for bit in [27, 99, 155] {
+            let mut damaged = reception.clone();
+            damaged.lose_bit(bit);
+            self.read(&damaged);
+        }
+    }
+
+    /// Without taps all parity is 0, and wrong data comes back as done.
+    fn without_taps(&mut self, mode: Mode) {
+        let block = self.random.bytes(mode.bytes());
+        let mut reception = Reception::new(mode, mode.card(0, 0), block);
+        let data = mode.coded_bits_of(false);
+        for bit in self.random.some_of(&data, 3) {
+            reception.flip_bit(bit);
+        }
+        self.read(&reception);
+    }
+
+    /// Cards that each entry refuses, with an input and a room that are wrong besides.
+    fn cards_at_the_entries(&mut self) {
+        for (entry, mode) in [
+            (Entry::FcSend, Mode::frame_control(0)),
+            (Entry::FcRead, Mode::frame_control(1)),
+            (Entry::PayloadSend, modes()[1]),
+            (Entry::PayloadRead, modes()[4]),
+        ] {
+            let call = Call::Entry(entry);
+            let good = mode.card(731, 99).to_vec();
+            for card in spoilt_cards(&good) {
+                self.add(call, &card, &[7; 5], 3);
+            }
+            // A card that the entry does not serve.
+            let other = if mode.kind == 0 {
+                modes()[1]
+            } else {
+                Mode::frame_control(0)
+            };
+            self.add(call, &other.card(731, 99), &[0; 16], AMPLE);
+            for length in 0..=40 {
+                let card = self.random.bytes(length);
+                self.add(call, &card, &[0; 16], AMPLE);
+            }
+        }
+    }
+
+    /// Cards read and printed.
+    fn cards(&mut self) {
+        let good = good_cards(&mut self.random);
+        for card in &good {
+            let text = card::text(card).len();
+            self.add(Call::CardRead, card, &[], CARD_FIELDS);
+            self.add(Call::CardText, card, &[], text);
+        }
+        for room in [0, 7, 9, 20] {
+            self.add(Call::CardRead, &good[0], &[], room);
+        }
+        let text = card::text(&good[0]).len();
+        for room in [0, text - 1, text + 1] {
+            self.add(Call::CardText, &good[0], &[], room);
+        }
+        let mut bad = spoilt_cards(&good[0]);
+        bad.extend(all_modes());
+        bad.extend((0..=64).map(|length| self.random.bytes(length)));
+        for card in &bad {
+            self.add(Call::CardRead, card, &[], CARD_FIELDS);
+            self.add(Call::CardText, card, &[], 200);
+        }
+        self.add(Call::CardRead, &bad[0], &[], 0);
+        for room in [9, 10, 11] {
+            self.add(Call::CardText, &bad[0], &[], room);
+        }
+    }
+
+    /// Every point, then bits that are illegal, too few or too many, and rooms.
+    fn points(&mut self) {
+        for (modulation, count) in modulations() {
+            let card = [modulation as u8];
+            for v in 0..1u8 << count {
+                let bits: Vec<u8> = (0..count).map(|k| v >> k & 1).collect();
+                self.add(Call::Map, &card, &bits, COORDINATES + usize::from(v % 2));
+            }
+            for (index, illegal) in (0..count).flat_map(|k| [2, 3, 128, 255].map(|b| (k, b))) {
+                let mut bits = vec![1; count];
+                bits[index..].fill(illegal);
+                self.add(Call::Map, &card, &bits, COORDINATES);
+                self.add(Call::Map, &card, &bits, COORDINATES - 1);
+            }
+            for length in 0..=9 {
+                self.add(Call::Map, &card, &vec![1; length], COORDINATES);
+            }
+            self.add(Call::Map, &card, &vec![0; count], 0);
+        }
+        for modulation in [3, 4, 128, 255] {
+            self.add(Call::Map, &[modulation], &[9; 3], 0);
+            self.add(Call::Map, &[modulation], &[0, 1], COORDINATES);
+        }
+    }
+
+    /// Every coordinate against every other, lost carriers, rooms and undefined modulations.
+    fn slices(&mut self) {
+        for (modulation, count) in modulations() {
+            let modulation = modulation as u8;
+            for i in coordinates() {
+                for q in coordinates() {
+                    self.slice(modulation, 1, [i, q], count);
+                }
+            }
+            for heard in [0, 2, 128, 255] {
+                self.slice(modulation, heard, [1.0, -1.0], count + 1);
+            }
+            for room in 0..count {
+                self.slice(modulation, 1, [1.0, -1.0], room);
+            }
+        }
+        for modulation in [3, 4, 255] {
+            self.slice(modulation, 1, [1.0, 1.0], 0);
+            self.slice(modulation, 0, [1.0, 1.0], 4);
+        }
+    }
+
+    fn slice(&mut self, modulation: u8, heard: u8, at: [f64; 2], room: usize) {
+        let mut card = vec![modulation, heard];
+        card.extend(at.iter().flat_map(|x| x.to_bits().to_be_bytes()));
+        self.add(Call::Slice, &card, &[], room);
+    }
+}
+
+/// Damage that leaves each bit a right majority: of frame control some copies of some bits, of
+/// payload one of the two copies of some bits.
+fn decided(reception: &mut Reception, random: &mut Random) {
+    let mode = reception.mode;
+    for _ in 0..20 {
+        if mode.kind == 0 {
+            reception.damage_bit(random.below(256), 1, 1, random);
+        } else {
+            reception.lose(random.below(mode.pad()));
+        }
+    }
+}
+
+/// Two bits without a majority, and a wrong one besides.
+fn undecided(reception: &mut Reception, random: &mut Random) {
+    let mode = reception.mode;
+    for _ in 0..2 {
+        let bit = random.below(mode.coded());
+        if mode.copies(bit).len() > 1 && random.once_in(2) {
+            reception.tie_bit(bit, random);
+        } else {
+            reception.lose_bit(bit);
+        }
+    }
+    let parity = mode.coded_bits_of(true);
+    reception.flip_bit(random.pick(&parity));
+}
+
+/// A parity bit decided wrongly, and up to seven bits of data or parity.
+fn parity_wrong(reception: &mut Reception, random: &mut Random) {
+    let parity = reception.mode.coded_bits_of(true);
+    reception.flip_bit(random.pick(&parity));
+    for _ in 0..random.below(8) {
+        reception.flip_bit(random.below(reception.mode.coded()));
+    }
+}
+
+/// Two illegal items, and a bit without a majority besides.
+fn illegal(reception: &mut Reception, random: &mut Random) {
+    reception.lose_bit(0);
+    for _ in 0..2 {
+        let index = random.below(reception.items.len());
+        reception.items[index] = random.within(3..256) as u8;
+    }
+}
+
+/// Two good cards of each mode.
+fn good_cards(random: &mut Random) -> Vec<Vec<u8>> {
+    let serials = [0, 9, 10, u64::MAX, 9_007_199_254_740_993];
+    let mut cards = vec![vec![0x12, 0x58, 0x8E, 0x00, 0x20, 0, 0, 0, 0, 0, 1]];
+    for mode in modes() {
+        let (taps, serial) = (random.below(2048) as u16, random.word_of_any_size());
+        cards.push(mode.card(taps, serial).to_vec());
+        let (taps, serial) = (random.pick(&TAPS), random.pick(&serials));
+        cards.push(mode.card(taps, serial).to_vec());
+    }
+    cards
+}
+
+/// A good card spoilt in each way that has a number: 10 and 12 bytes, versions, the spare bit,
+/// band 2 and 3, kind 5 to 7, modulation 3.
+fn spoilt_cards(good: &[u8]) -> Vec<Vec<u8>> {
+    let mut cards = vec![good[..10].to_vec(), [good, &[0]].concat(), Vec::new()];
+    let head = u32::from_be_bytes([0, good[0], good[1], good[2]]);
+    let with = |field: u32, shift: u32, mask: u32| {
+        let head = head & !(mask << shift) | field << shift;
+        let mut card = good.to_vec();
+        card[..3].copy_from_slice(&head.to_be_bytes()[1..]);
+        card
+    };
+    cards.extend((0..16).map(|version| with(version, 20, 15)));
+    cards.push(with(1, 0, 1));
+    cards.extend((2..4).map(|band| with(band, 18, 3)));
+    cards.extend((5..8).map(|kind| with(kind, 15, 7)));
+    cards.push(with(3, 12, 3));
+    cards
+}
+
+/// Every mode that fits its bits, defined or not.
+fn all_modes() -> Vec<Vec<u8>> {
+    let card = |mode: u8| vec![0x10 | mode >> 4, mode << 4, 6, 0, 0, 0, 0, 0, 0, 1, 2];
+    (0..=255).map(card).collect()
+}
+
+#[cfg(test)]
+mod tests {
+    use super::*;
+    use crate::record::{from_bytes, to_bytes};
+    use std::collections::HashSet;
+
+    #[test]
+    fn the_file_is_small_and_the_same_on_every_run() {
+        let bytes = to_bytes(&records());
+        assert!(bytes.len() <= 1_500_000, "{} bytes", bytes.len());
+        assert!(bytes == to_bytes(&records()));
+    }
+
+    #[test]
+    fn records_come_back_from_the_file() {
+        let records = records();
+        assert_eq!(from_bytes(&to_bytes(&records)), Some(records));
+    }
+
+    #[test]
+    fn every_call_has_every_number_it_can_have() {
+        let seen: HashSet<(u8, u8)> = records()
+            .iter()
+            .map(|record| (to_bytes(std::slice::from_ref(record))[0], record.number))
+            .collect();
+        let numbers: [&[u8]; 8] = [
+            &[0, 1, 2, 3, 4, 5],
+            &[0, 1, 2, 3, 4, 5, 6, 7, 8],
+            &[0, 1, 2, 3, 4, 5],
+            &[0, 1, 2, 3, 4, 5, 6, 7, 8],
+            &[0, 1, 2, 3, 5],
+            &[0, 5],
+            &[0, 3, 4, 5, 6],
+            &[0, 3, 5],
+        ];
+        let expected: HashSet<(u8, u8)> = numbers
+            .iter()
+            .enumerate()
+            .flat_map(|(call, numbers)| numbers.iter().map(move |&number| (call as u8, number)))
+            .collect();
+        assert_eq!(seen, expected);
+    }
+
+    fn is_of(card: &[u8], mode: Mode) -> bool {
+        card::read(card).is_ok_and(|card| {
+            let fields = (card.band, card.kind, card.rate, card.modulation);
+            fields == (mode.band, mode.kind, mode.rate, mode.modulation)
+        })
+    }
+
+    #[test]
+    fn every_mode_is_read_in_each_way() {
+        let records = records();
+        for mode in modes() {
+            let read = Call::Entry(mode.entries().1);
+            let numbers: HashSet<u8> = records
+                .iter()
+                .filter(|record| record.call == read && is_of(&record.card, mode))
+                .map(|record| record.number)
+                .collect();
+            for number in [0, 4, 6, 7, 8] {
+                assert!(numbers.contains(&number), "{mode:?} {number}");
+            }
+        }
+    }
+}

@@ -1,0 +1,233 @@
+//! Bands, lanes and the majority (01, "Carriers"; 000, 5.1.4.4 and Table 21; D8, D12, D15).
+
+use crate::{number, Report};
+
+/// The number of a sub-carrier.
+#[derive(Clone, Copy, Debug, PartialEq, Eq)]
+pub struct SubCarrier(pub u64);
+
+/// A place in a band's list of usable sub-carriers, from 0.
+#[derive(Clone, Copy, Debug, PartialEq, Eq)]
+pub struct Place(pub u64);
+
+/// A band: its first sub-carrier, how many it has, and its frame-control symbols.
+#[derive(Clone, Copy, Debug, PartialEq, Eq)]
+pub struct Band {
+    pub first: u16,
+    pub places: usize,
+    pub symbols: usize,
+}
+
+/// Band 0 has the sub-carriers 80 to 490, band 1 those from 100 to 230.
+pub const BANDS: [Band; 2] = [
+    Band {
+        first: 80,
+        places: 411,
+        symbols: 4,
+    },
+    Band {
+        first: 100,
+        places: 131,
+        symbols: 12,
+    },
+];
+
+fn band(number: u64) -> Result<Band, Report> {
+    match number {
+        0 => Ok(BANDS[0]),
+        1 => Ok(BANDS[1]),
+        _ => Err(Report::refused(number::MODE, 0)),
+    }
+}
+
+/// The place of a sub-carrier in a band; 3 for an undefined band, 4 with a number outside it.
+pub fn place_of(band_number: u64, sub_carrier: SubCarrier) -> Result<Place, Report> {
+    let band = band(band_number)?;
+    match sub_carrier.0.checked_sub(u64::from(band.first)) {
+        Some(place) if place < band.places as u64 => Ok(Place(place)),
+        _ => Err(Report::refused(number::INPUT, sub_carrier.0)),
+    }
+}
+
+/// The sub-carrier at a place of a band; 3 for an undefined band, 4 with a number outside it.
+pub fn sub_carrier_of(band_number: u64, place: Place) -> Result<SubCarrier, Report> {
+    let band = band(band_number)?;
+    if place.0 < band.places as u64 {
+        Ok(SubCarrier(u64::from(band.first) + place.0))
+    } else {
+        Err(Report::refused(number::INPUT, place.0))
+    }
+}
+
+/// Coded bits of a frame control.
+pub const FRAME_CONTROL_BITS: usize = 256;
+
+/// The offsets o of the frame-control symbols, the first symbol's first.
+const OFFSETS: [u8; 12] = [0, 192, 160, 96, 144, 80, 48, 240, 24, 184, 136, 40];
+
+/// The coded bits on lanes I and Q at a place, for symbols counted from 1. All sums are mod 256,
+/// so the place goes in as a byte (D8).
+pub fn lanes(symbol: usize, place: usize) -> (u8, u8) {
+    let i = (place as u8).wrapping_add(OFFSETS[symbol - 1]);
+    (i, i.wrapping_add(128))
+}
+
+impl Band {
+    /// The items of a frame control.
+    pub const fn frame_control_items(&self) -> usize {
+        2 * self.places * self.symbols
+    }
+
+    /// Calls `visit(item, bit)` for each item of a frame control: by symbol, place, I then Q.
+    pub fn for_each_lane(&self, mut visit: impl FnMut(usize, usize)) {
+        let mut item = 0;
+        for symbol in 1..=self.symbols {
+            for place in 0..self.places {
+                let (i, q) = lanes(symbol, place);
+                visit(item, usize::from(i));
+                visit(item + 1, usize::from(q));
+                item += 2;
+            }
+        }
+    }
+}
+
+/// How a payload's coded bits fill the symbols.
+#[derive(Clone, Copy, Debug, PartialEq, Eq)]
+pub struct Layout {
+    pub symbols: usize,
+    pub items: usize,
+    /// Items of the last symbol that repeat coded bits from 0 on.
+    pub pad: usize,
+}
+
+/// The layout of `coded` bits with `bits_per_carrier` on each carrier of a band.
+pub const fn layout(band: &Band, bits_per_carrier: usize, coded: usize) -> Layout {
+    let per_symbol = band.places * bits_per_carrier;
+    let symbols = coded.div_ceil(per_symbol);
+    let items = symbols * per_symbol;
+    Layout {
+        symbols,
+        items,
+        pad: items - coded,
+    }
+}
+
+/// Index of the first received item that is not 0, 1 or 2.
+pub fn first_illegal(items: &[u8]) -> Option<usize> {
+    items.iter().position(|&item| item > 2)
+}
+
+/// The copies heard of each coded bit: ones less zeros.
+pub type Balance = i16;
+
+/// What a legal received item adds to its bit's balance; a lost one adds nothing.
+pub const fn vote(item: u8) -> Balance {
+    match item {
+        0 => -1,
+        1 => 1,
+        _ => 0,
+    }
+}
+
+/// Decides every bit by strict majority, or gives the lowest bit that has none.
+pub fn decide(balances: &[Balance], bits: &mut [u8]) -> Result<(), usize> {
+    for (n, (bit, &balance)) in bits.iter_mut().zip(balances).enumerate() {
+        if balance == 0 {
+            return Err(n);
+        }
+        *bit = u8::from(balance > 0);
+    }
+    Ok(())
+}
+
+#[cfg(test)]
+mod tests {
+    use super::*;
+
+    #[test]
+    fn places_and_sub_carriers() {
+        for (number, first, last) in [(0, 80, 490), (1, 100, 230)] {
+            for sub in 0..1000 {
+                let place = place_of(number, SubCarrier(sub));
+                if (first..=last).contains(&sub) {
+                    assert_eq!(place, Ok(Place(sub - first)));
+                    assert_eq!(
+                        sub_carrier_of(number, Place(sub - first)),
+                        Ok(SubCarrier(sub))
+                    );
+                } else {
+                    assert_eq!(place, Err(Report::refused(4, sub)));
+                }
+            }
+            let count = last - first + 1;
+            assert_eq!(
+                sub_carrier_of(number, Place(count)),
+                Err(Report::refused(4, count))
+            );
+        }
+        let top = u64::MAX;
+        assert_eq!(place_of(0, SubCarrier(top)), Err(Report::refused(4, top)));
+        assert_eq!(sub_carrier_of(1, Place(top)), Err(Report::refused(4, top)));
+        for number in [2, 3, top] {
+            assert_eq!(
+                place_of(number, SubCarrier(9999)),
+                Err(Report::refused(3, 0))
+            );
+            assert_eq!(
+                sub_carrier_of(number, Place(9999)),
+                Err(Report::refused(3, 0))
+            );
+        }
+    }
+
+    #[test]
+    fn offsets_of_q_are_those_000_prints() {
+        // 000, 5.1.4.4: the offsets of lane Q, symbol by symbol.
+        let q = [128, 64, 32, 224, 16, 208, 176, 112, 152, 56, 8, 168];
+        for (n, &offset) in q.iter().enumerate() {
+            assert_eq!(lanes(n + 1, 0).1, offset);
+            assert_eq!(lanes(n + 1, 256).1, offset);
+        }
+    }
+
+    #[test]
+    fn copies_of_frame_control_bits() {
+        for (band, items, with_twelve) in [(BANDS[0], 3288, 40), (BANDS[1], 3144, 184)] {
+            assert_eq!(band.frame_control_items(), items);
+            let mut copies = [0; FRAME_CONTROL_BITS];
+            let mut count = 0;
+            band.for_each_lane(|item, bit| {
+                assert_eq!(item, count);
+                count += 1;
+                copies[bit] += 1;
+            });
+            assert_eq!(count, items);
+            assert!(copies.iter().all(|&n| n == 12 || n == 13));
+            assert_eq!(copies.iter().filter(|&&n| n == 12).count(), with_twelve);
+        }
+    }
+
+    #[test]
+    fn no_defined_mode_has_a_pad_longer_than_its_coded_data() {
+        for band in &BANDS {
+            for bits in [1, 2, 4] {
+                for coded in [1152, 2176, 4224, 8320, 4680] {
+                    let plan = layout(band, bits, coded);
+                    assert!(plan.pad <= coded && plan.pad < band.places * bits);
+                    assert_eq!(plan.items, coded + plan.pad);
+                    assert_eq!(plan.items, plan.symbols * band.places * bits);
+                }
+            }
+        }
+    }
+
+    #[test]
+    fn majority_is_strict_and_the_lowest_bit_without_is_named() {
+        let mut bits = [9; 3];
+        assert_eq!(decide(&[1, -3, 2], &mut bits), Ok(()));
+        assert_eq!(bits, [1, 0, 1]);
+        assert_eq!(decide(&[1, 0, 0], &mut bits), Err(1));
+        assert_eq!([vote(0), vote(1), vote(2)], [-1, 1, 0]);
+    }
+}

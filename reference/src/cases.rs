@@ -1,0 +1,399 @@
+//! What the vectors and the comparison with the library under test are made of: numbers that look
+//! random, the defined modes, and receptions that are damaged on purpose.
+
+use std::ops::Range;
+
+use crate::card::{self, Fields, CARD_BYTES};
+use crate::carriers::{self, Band, BANDS};
+use crate::interface::Entry;
+use crate::interleaver::{self, coded_bits, data_bits};
+use crate::{points, turbo, Report};
+
+/// Numbers that look random and are the same on every run: splitmix64.
+#[derive(Clone, Debug)]
+pub struct Random(u64);
+
+impl Random {
+    pub const fn new(seed: u64) -> Random {
+        Random(seed)
+    }
+
+    pub fn word(&mut self) -> u64 {
+        self.0 = self.0.wrapping_add(0x9E37_79B9_7F4A_7C15);
+        let mut z = self.0;
+        z = (z ^ z >> 30).wrapping_mul(0xBF58_476D_1CE4_E5B9);
+        z = (z ^ z >> 27).wrapping_mul(0x94D0_49BB_1331_11EB);
+        z ^ z >> 31
+    }
+
+    /// A number below `limit`, which is not 0.
+    pub fn below(&mut self, limit: usize) -> usize {
+        (self.word() % limit as u64) as usize
+    }
+
+    /// A number of the range, which is not empty.
+    pub fn within(&mut self, range: Range<usize>) -> usize {
+        range.start + self.below(range.end - range.start)
+    }
+
+    /// True once in `of` times.
+    pub fn once_in(&mut self, of: usize) -> bool {
+        self.below(of) == 0
+    }
+
+    /// One of the elements, of which there is at least one.
+    pub fn pick<T: Copy>(&mut self, from: &[T]) -> T {
+        from[self.below(from.len())]
+    }
+
+    pub fn bytes(&mut self, length: usize) -> Vec<u8> {
+        let words = (0..length.div_ceil(8)).flat_map(|_| self.word().to_le_bytes());
+        let mut bytes: Vec<u8> = words.collect();
+        bytes.truncate(length);
+        bytes
+    }
+
+    /// A number of any size: as many small ones as large ones.
+    pub fn word_of_any_size(&mut self) -> u64 {
+        self.word() >> self.below(64)
+    }
+
+    /// Some of the elements, none twice, in any order.
+    pub fn some_of<T: Copy>(&mut self, from: &[T], count: usize) -> Vec<T> {
+        let mut left = from.to_vec();
+        let taken = (0..count.min(from.len())).map(|_| left.swap_remove(self.below(left.len())));
+        taken.collect()
+    }
+}
+
+/// A defined mode.
+#[derive(Clone, Copy, Debug, PartialEq, Eq)]
+pub struct Mode {
+    pub band: u8,
+    pub kind: u8,
+    pub rate: u8,
+    pub modulation: u8,
+}
+
+/// All defined modes: on each band one of frame control and fifteen of payload.
+pub fn modes() -> Vec<Mode> {
+    let mut modes = Vec::new();
+    for band in 0..2 {
+        modes.push(Mode {
+            band,
+            kind: 0,
+            rate: 0,
+            modulation: 1,
+        });
+        for (kind, rate) in [(1, 0), (2, 0), (3, 0), (4, 0), (4, 1)] {
+            modes.extend((0..3).map(|modulation| Mode {
+                band,
+                kind,
+                rate,
+                modulation,
+            }));
+        }
+    }
+    modes
+}
+
+impl Mode {
+    /// A frame control of a band.
+    pub const fn frame_control(band: u8) -> Mode {
+        Mode {
+            band,
+            kind: 0,
+            rate: 0,
+            modulation: 1,
+        }
+    }
+
+    pub fn card(&self, taps: u16, serial: u64) -> [u8; CARD_BYTES] {
+        let fields = Fields {
+            version: 1,
+            band: self.band.into(),
+            kind: self.kind.into(),
+            rate: self.rate.into(),
+            modulation: self.modulation.into(),
+            taps: taps.into(),
+            spare: 0,
+            serial,
+        };
+        let mut card = [0; CARD_BYTES];
+        let report = card::write(&fields, &mut card);
+        assert_eq!(report, Report::done(CARD_BYTES), "{self:?} taps {taps}");
+        card
+    }
+
+    /// The entry that sends and the one that reads.
+    pub const fn entries(&self) -> (Entry, Entry) {
+        if self.kind == 0 {
+            (Entry::FcSend, Entry::FcRead)
+        } else {
+            (Entry::PayloadSend, Entry::PayloadRead)
+        }
+    }
+
+    const fn band(&self) -> &'static Band {
+        &BANDS[self.band as usize]
+    }
+
+    /// Length of the block in bytes.
+    pub fn bytes(&self) -> usize {
+        turbo::SIZES[usize::from(self.kind)].bytes
+    }
+
+    /// Coded bits of the block.
+    pub fn coded(&self) -> usize {
+        coded_bits(self.kind, self.rate)
+    }
+
+    /// Items of all symbols.
+    pub fn items(&self) -> usize {
+        if self.kind == 0 {
+            return self.band().frame_control_items();
+        }
+        match points::bits_per_carrier(self.modulation.into()) {
+            Some(bits) => carriers::layout(self.band(), bits, self.coded()).items,
+            None => 0,
+        }
+    }
+
+    /// Coded bits that have two copies because the last symbol repeats them; 0 for frame control.
+    pub fn pad(&self) -> usize {
+        if self.kind == 0 {
+            0
+        } else {
+            self.items() - self.coded()
+        }
+    }
+
+    /// The items that carry a coded bit, rising.
+    pub fn copies(&self, bit: usize) -> Vec<usize> {
+        if self.kind > 0 {
+            return (bit..self.items()).step_by(self.coded()).collect();
+        }
+        let mut copies = Vec::new();
+        self.band().for_each_lane(|item, carried| {
+            if carried == bit {
+                copies.push(item);
+            }
+        });
+        copies
+    }
+
+    /// The coded bits that are data, or else those that are parity.
+    pub fn coded_bits_of(&self, parity: bool) -> Vec<usize> {
+        let mut bits = Vec::new();
+        interleaver::for_each_coded(self.kind, self.rate, |to, from| {
+            if parity == (from >= data_bits(self.kind)) {
+                bits.push(to);
+            }
+        });
+        bits
+    }
+}
+
+/// A block that was sent, and its items as they are received.
+#[derive(Clone, Debug)]
+pub struct Reception {
+    pub mode: Mode,
+    pub card: [u8; CARD_BYTES],
+    pub block: Vec<u8>,
+    pub sent: Vec<u8>,
+    pub items: Vec<u8>,
+}
+
+impl Reception {
+    /// Sends a block and receives it as it was sent.
+    pub fn new(mode: Mode, card: [u8; CARD_BYTES], block: Vec<u8>) -> Reception {
+        let mut sent = vec![0; mode.items()];
+        let report = mode.entries().0.call(&card, &block, &mut sent);
+        assert_eq!(report, Report::done(sent.len()), "{mode:?}");
+        let items = sent.clone();
+        Reception {
+            mode,
+            card,
+            block,
+            sent,
+            items,
+        }
+    }
+
+    /// Any taps, serial and block.
+    pub fn random(mode: Mode, random: &mut Random) -> Reception {
+        let card = mode.card(random.below(2048) as u16, random.word());
+        Reception::new(mode, card, random.bytes(mode.bytes()))
+    }
+
+    /// The item as sent, but with the other bit.
+    pub fn spoil(&mut self, item: usize) {
+        self.items[item] = u8::from(self.sent[item] == 0);
+    }
+
+    /// The item marked as lost.
+    pub fn lose(&mut self, item: usize) {
+        self.items[item] = 2;
+    }
+
+    /// All copies of a coded bit lost.
+    pub fn lose_bit(&mut self, bit: usize) {
+        for item in self.mode.copies(bit) {
+            self.lose(item);
+        }
+    }
+
+    /// All copies of a coded bit wrong.
+    pub fn flip_bit(&mut self, bit: usize) {
+        for item in self.mode.copies(bit) {
+            self.spoil(item);
+        }
+    }
+
+    /// Of a coded bit's copies so many wrong and so many lost, no copy being both.
+    pub fn damage_bit(&mut self, bit: usize, wrong: usize, lost: usize, random: &mut Random) {
+        let copies = self.mode.copies(bit);
+        let hit = random.some_of(&copies, wrong + lost);
+        for (n, item) in hit.into_iter().enumerate() {
+            if n < wrong {
+                self.spoil(item);
+            } else {
+                self.lose(item);
+            }
+        }
+    }
+
+    /// A coded bit with as many copies wrong as right, and at most one lost.
+    pub fn tie_bit(&mut self, bit: usize, random: &mut Random) {
+        let copies = self.mode.copies(bit).len();
+        self.damage_bit(bit, copies / 2, copies % 2, random);
+    }
+
+    /// A carrier of frame control with an item that holds the wrong bit: either, both, or one
+    /// beside a lost one.
+    pub fn alter_carrier(&mut self, carrier: usize, random: &mut Random) {
+        let wrong = 2 * carrier + random.below(2);
+        self.spoil(wrong);
+        match random.below(3) {
+            0 => self.spoil(wrong ^ 1),
+            1 => self.lose(wrong ^ 1),
+            _ => {}
+        }
+    }
+
+    /// A carrier of frame control whose only change is one or two items marked as lost.
+    pub fn lose_carrier(&mut self, carrier: usize, random: &mut Random) {
+        let lost = 2 * carrier + random.below(2);
+        self.lose(lost);
+        if random.once_in(2) {
+            self.lose(lost ^ 1);
+        }
+    }
+
+    /// Altered and lost carriers of frame control, none being both.
+    pub fn damage_carriers(
+        &mut self,
+        carriers: &[usize],
+        altered: usize,
+        lost: usize,
+        random: &mut Random,
+    ) {
+        let hit = random.some_of(carriers, altered + lost);
+        for (n, carrier) in hit.into_iter().enumerate() {
+            if n < altered {
+                self.alter_carrier(carrier, random);
+            } else {
+                self.lose_carrier(carrier, random);
+            }
+        }
+    }
+}
+
+/// Numbers of altered and lost carriers, where twice the altered and the lost make `weight`.
+pub fn altered_and_lost(weight: usize, random: &mut Random) -> (usize, usize) {
+    let altered = random.within(0..weight / 2 + 1);
+    (altered, weight - 2 * altered)
+}
+
+#[cfg(test)]
+mod tests {
+    use super::*;
+
+    #[test]
+    fn numbers_are_those_of_splitmix64() {
+        let mut random = Random::new(1234567);
+        let words: Vec<u64> = (0..3).map(|_| random.word()).collect();
+        let known = [
+            6457827717110365317,
+            3203168211198807973,
+            9817491932198370423,
+        ];
+        assert_eq!(words, known);
+        assert_eq!(Random::new(1).bytes(13).len(), 13);
+        let mut some = Random::new(2).some_of(&[4, 5, 6, 7], 3);
+        some.sort_unstable();
+        some.dedup();
+        assert_eq!(some.len(), 3);
+    }
+
+    #[test]
+    fn there_are_32_modes_and_each_has_a_card() {
+        let modes = modes();
+        assert_eq!(modes.len(), 32);
+        for mode in modes {
+            let card = card::read(&mode.card(2047, 5)).unwrap();
+            assert_eq!(
+                (card.band, card.kind, card.rate, card.modulation),
+                (mode.band, mode.kind, mode.rate, mode.modulation)
+            );
+        }
+    }
+
+    #[test]
+    fn every_item_is_a_copy_of_one_bit() {
+        for mode in modes() {
+            let mut items: Vec<usize> = (0..mode.coded())
+                .step_by(if mode.kind == 0 { 1 } else { 97 })
+                .flat_map(|bit| mode.copies(bit))
+                .collect();
+            let count = items.len();
+            items.sort_unstable();
+            items.dedup();
+            assert_eq!(items.len(), count);
+            assert!(items.iter().all(|&item| item < mode.items()));
+            if mode.kind == 0 {
+                assert_eq!(count, mode.items());
+            } else {
+                assert_eq!(mode.copies(mode.pad()).len(), 1);
+                assert_eq!(mode.copies(mode.pad() - 1).len(), 2);
+            }
+        }
+    }
+
+    #[test]
+    fn damage_does_what_it_says() {
+        let mut random = Random::new(3);
+        for band in 0..2 {
+            let mut reception = Reception::random(Mode::frame_control(band), &mut random);
+            reception.damage_bit(77, 3, 2, &mut random);
+            let changes = |reception: &Reception| {
+                let pairs = reception.items.iter().zip(&reception.sent);
+                let wrong = pairs.filter(|(a, b)| **a < 2 && a != b).count();
+                (
+                    wrong,
+                    reception.items.iter().filter(|&&item| item == 2).count(),
+                )
+            };
+            assert_eq!(changes(&reception), (3, 2));
+            reception.items = reception.sent.clone();
+            reception.damage_carriers(&[5, 6, 7, 8], 0, 3, &mut random);
+            let (wrong, lost) = changes(&reception);
+            assert_eq!(wrong, 0);
+            assert!((3..=6).contains(&lost));
+        }
+        for weight in 0..12 {
+            let (altered, lost) = altered_and_lost(weight, &mut random);
+            assert_eq!(2 * altered + lost, weight);
+        }
+    }
+}

@@ -1,0 +1,217 @@
+//! The calls of the C interface (hplc.h) over this reference. Lent buffers are
+//! slices; what the C side stores behind `value` comes back in the report.
+
+use crate::card::{self, Fields};
+use crate::carriers::{self, Place, SubCarrier};
+use crate::entries;
+use crate::points::{self, Received};
+use crate::{number, Report};
+
+/// How many fields a card has.
+pub const CARD_FIELDS: usize = 8;
+/// How many coordinates a point has.
+pub const COORDINATES: usize = 2;
+
+/// Puts a whole answer at the front of the output, or refuses by 5 with its length.
+fn put<T: Copy>(answer: &[T], out: &mut [T]) -> Report {
+    match out.get_mut(..answer.len()) {
+        Some(front) => {
+            front.copy_from_slice(answer);
+            Report::done(answer.len())
+        }
+        None => Report::refused(number::OUTPUT, answer.len() as u64),
+    }
+}
+
+/// A number that was asked for, or the refusal.
+fn found(answer: Result<u64, Report>) -> Report {
+    answer.map_or_else(
+        |refusal| refusal,
+        |value| Report {
+            number: number::DONE,
+            value,
+            second: 0,
+        },
+    )
+}
+
+/// `hplc_card_read`: version, band, kind, rate, modulation, taps, spare, serial.
+pub fn card_read(card: &[u8], fields: &mut [u64]) -> Report {
+    let card = match card::read(card) {
+        Ok(card) => card,
+        Err(refusal) => return refusal,
+    };
+    let all: [u64; CARD_FIELDS] = [
+        1,
+        card.band.into(),
+        card.kind.into(),
+        card.rate.into(),
+        card.modulation.into(),
+        card.taps.into(),
+        0,
+        card.serial,
+    ];
+    put(&all, fields)
+}
+
+/// `hplc_card_write`, its fields in the order of `card_read`.
+pub fn card_write(fields: &[u64; CARD_FIELDS], out: &mut [u8]) -> Report {
+    let [version, band, kind, rate, modulation, taps, spare, serial] = *fields;
+    let fields = Fields {
+        version,
+        band,
+        kind,
+        rate,
+        modulation,
+        taps,
+        spare,
+        serial,
+    };
+    card::write(&fields, out)
+}
+
+/// `hplc_card_text`.
+pub fn card_text(card: &[u8], out: &mut [u8]) -> Report {
+    put(card::text(card).as_bytes(), out)
+}
+
+/// `hplc_map`: the bits of the coordinates I and Q. Row order puts 5 between points' 4 and 6.
+pub fn map(modulation: u64, bits: &[u8], point: &mut [u64]) -> Report {
+    match points::map(modulation, bits) {
+        Ok(mapped) => put(&[mapped.i.to_bits(), mapped.q.to_bits()], point),
+        Err(refusal) if refusal.number == number::ITEM && point.len() < COORDINATES => {
+            Report::refused(number::OUTPUT, COORDINATES as u64)
+        }
+        Err(refusal) => refusal,
+    }
+}
+
+/// `hplc_slice`: `heard` 0 is a lost carrier, any other value one heard at (i, q).
+pub fn slice(modulation: u64, heard: u64, i: f64, q: f64, items: &mut [u8]) -> Report {
+    let received = if heard == 0 {
+        Received::Lost
+    } else {
+        Received::Heard(i, q)
+    };
+    match points::slice(modulation, received) {
+        Ok(sliced) => put(sliced.as_slice(), items),
+        Err(refusal) => refusal,
+    }
+}
+
+/// `hplc_place_of_sub_carrier`.
+pub fn place_of_sub_carrier(band: u64, sub_carrier: u64) -> Report {
+    found(carriers::place_of(band, SubCarrier(sub_carrier)).map(|place| place.0))
+}
+
+/// `hplc_sub_carrier_of_place`.
+pub fn sub_carrier_of_place(band: u64, place: u64) -> Report {
+    found(carriers::sub_carrier_of(band, Place(place)).map(|sub_carrier| sub_carrier.0))
+}
+
+/// The four entries.
+#[derive(Clone, Copy, Debug, PartialEq, Eq)]
+pub enum Entry {
+    FcSend,
+    FcRead,
+    PayloadSend,
+    PayloadRead,
+}
+
+impl Entry {
+    pub const ALL: [Entry; 4] = [
+        Entry::FcSend,
+        Entry::FcRead,
+        Entry::PayloadSend,
+        Entry::PayloadRead,
+    ];
+
+    /// The C function's name.
+    pub const fn name(self) -> &'static str {
+        match self {
+            Entry::FcSend => "hplc_fc_send",
+            Entry::FcRead => "hplc_fc_read",
+            Entry::PayloadSend => "hplc_payload_send",
+            Entry::PayloadRead => "hplc_payload_read",
+        }
+    }
+
+    pub const fn sends(self) -> bool {
+        matches!(self, Entry::FcSend | Entry::PayloadSend)
+    }
+
+    /// The call itself.
+    pub fn call(self, card: &[u8], input: &[u8], out: &mut [u8]) -> Report {
+        match self {
+            Entry::FcSend => entries::fc_send(card, input, out),
+            Entry::FcRead => entries::fc_read(card, input, out),
+            Entry::PayloadSend => entries::payload_send(card, input, out),
+            Entry::PayloadRead => entries::payload_read(card, input, out),
+        }
+    }
+}
+
+#[cfg(test)]
+mod tests {
+    use super::*;
+
+    const EXAMPLE: [u8; 11] = [0x12, 0x58, 0x8E, 0x00, 0x20, 0, 0, 0, 0, 0, 1];
+    const FIELDS: [u64; 8] = [1, 0, 4, 1, 1, 0b10001000111, 0, 9_007_199_254_740_993];
+
+    #[test]
+    fn fields_of_the_example_and_back() {
+        let mut fields = [7; 9];
+        assert_eq!(card_read(&EXAMPLE, &mut fields), Report::done(8));
+        assert_eq!(fields[..8], FIELDS);
+        assert_eq!(fields[8], 7);
+        let mut card = [0; 11];
+        assert_eq!(card_write(&FIELDS, &mut card), Report::done(11));
+        assert_eq!(card, EXAMPLE);
+    }
+
+    #[test]
+    fn room_is_judged_after_the_card_and_before_the_items() {
+        let mut fields = [7; 7];
+        assert_eq!(card_read(&EXAMPLE, &mut fields), Report::refused(5, 8));
+        assert_eq!(
+            card_read(&EXAMPLE[..10], &mut fields),
+            Report::refused(1, 10)
+        );
+        assert_eq!(fields, [7; 7]);
+
+        let mut text = [7; 200];
+        let length = card::text(&EXAMPLE).len();
+        let short = card_text(&EXAMPLE, &mut text[..length - 1]);
+        assert_eq!(short, Report::refused(5, length as u64));
+        assert_eq!(card_text(&[], &mut text[..9]), Report::refused(5, 10));
+        assert_eq!(text, [7; 200]);
+        assert_eq!(card_text(&[], &mut text), Report::done(10));
+        assert_eq!(&text[..11], b"refused 1\n\x07");
+
+        let mut point = [7; 2];
+        assert_eq!(map(1, &[0], &mut point[..1]), Report::refused(4, 1));
+        assert_eq!(map(1, &[0, 9], &mut point[..1]), Report::refused(5, 2));
+        assert_eq!(map(1, &[0, 9], &mut point), Report::refused(6, 1));
+        assert_eq!(point, [7; 2]);
+        assert_eq!(map(0, &[1], &mut point), Report::done(2));
+        assert_eq!(point, [1f64.to_bits(), 0]);
+
+        let mut items = [7; 4];
+        assert_eq!(slice(3, 1, 1.0, 1.0, &mut []), Report::refused(3, 0));
+        let short = slice(2, 0, 1.0, 1.0, &mut items[..3]);
+        assert_eq!(short, Report::refused(5, 4));
+        assert_eq!(items, [7; 4]);
+        assert_eq!(slice(1, 256, 1.0, -1.0, &mut items), Report::done(2));
+        assert_eq!(items, [1, 0, 7, 7]);
+    }
+
+    #[test]
+    fn numbers_asked_for_come_as_the_value() {
+        let found = place_of_sub_carrier(0, 490);
+        assert_eq!((found.number, found.value, found.second), (0, 410, 0));
+        let found = sub_carrier_of_place(1, 130);
+        assert_eq!((found.number, found.value, found.second), (0, 230, 0));
+        assert_eq!(sub_carrier_of_place(1, 131), Report::refused(4, 131));
+        assert_eq!(place_of_sub_carrier(2, 131), Report::refused(3, 0));
+    }
+}

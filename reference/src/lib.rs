@@ -1,0 +1,62 @@
+//! An independent second implementation of the bench tester's core.
+//!
+//! It is written from the papers alone: "01" in the comments is papers/01-scope.md, "000" is
+//! Q/GDW 11612.41-2016 and "D1", "D2", .. are the entries of DECISIONS.md.
+
+pub mod card;
+pub mod carriers;
+pub mod cases;
+#[cfg(feature = "core")]
+pub mod core_calls;
+pub mod entries;
+pub mod interface;
+pub mod interleaver;
+pub mod points;
+pub mod scrambler;
+pub mod turbo;
+
+#[cfg(test)]
+mod tests;
+
+/// The numbers a fitter may see (01, "Numbers a fitter may see").
+pub mod number {
+    pub const DONE: u32 = 0;
+    pub const CARD_LENGTH: u32 = 1;
+    pub const VERSION_OR_SPARE: u32 = 2;
+    pub const MODE: u32 = 3;
+    pub const PAD: u32 = 9;
+    pub const INPUT: u32 = 4;
+    pub const OUTPUT: u32 = 5;
+    pub const ITEM: u32 = 6;
+    pub const MAJORITY: u32 = 7;
+    pub const PARITY: u32 = 8;
+}
+
+/// An entry's answer: the number and what comes with it (D10, D18). The second value is 0 in the
+/// base.
+#[derive(Clone, Copy, Debug, PartialEq, Eq)]
+pub struct Report {
+    pub number: u32,
+    pub value: u64,
+    pub second: u64,
+}
+
+impl Report {
+    /// Number 0, with the count of elements written (D10).
+    pub const fn done(count: usize) -> Report {
+        Report {
+            number: number::DONE,
+            value: count as u64,
+            second: 0,
+        }
+    }
+
+    /// A refusal and what comes with it.
+    pub const fn refused(number: u32, value: u64) -> Report {
+        Report {
+            number,
+            value,
+            second: 0,
+        }
+    }
+}

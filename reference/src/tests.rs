@@ -1,0 +1,614 @@
+//! The bench checks P1 to P12 of 01, and the entries in all defined modes.
+
+use crate::card::{self, Fields};
+use crate::carriers::{self, BANDS};
+use crate::entries::{fc_read, fc_send, payload_read, payload_send};
+use crate::scrambler::{scramble, Scrambler};
+use crate::turbo::{interleaved_from, SIZES};
+use crate::{interleaver, turbo, Report};
+
+type Entry = fn(&[u8], &[u8], &mut [u8]) -> Report;
+
+const SOME_TAPS: [u16; 6] = [0, 1095, 2047, 682, 1365, 731];
+
+/// Whole numbers that look random.
+struct Random(u64);
+
+impl Random {
+    fn next(&mut self, below: usize) -> usize {
+        self.0 = self
+            .0
+            .wrapping_mul(6364136223846793005)
+            .wrapping_add(1442695040888963407);
+        (self.0 >> 33) as usize % below
+    }
+
+    fn bytes(&mut self, length: usize) -> Vec<u8> {
+        (0..length).map(|_| self.next(256) as u8).collect()
+    }
+}
+
+/// A mode with its taps.
+#[derive(Clone, Copy, Debug)]
+struct Mode {
+    band: u8,
+    kind: u8,
+    rate: u8,
+    modulation: u8,
+    taps: u16,
+}
+
+impl Mode {
+    fn card(&self) -> [u8; 11] {
+        let fields = Fields {
+            version: 1,
+            band: self.band.into(),
+            kind: self.kind.into(),
+            rate: self.rate.into(),
+            modulation: self.modulation.into(),
+            taps: self.taps.into(),
+            spare: 0,
+            serial: 0xFEDC_BA98_7654_3210,
+        };
+        let mut card = [0; 11];
+        assert_eq!(card::write(&fields, &mut card), Report::done(11));
+        card
+    }
+
+    fn send(&self) -> Entry {
+        if self.kind == 0 {
+            fc_send
+        } else {
+            payload_send
+        }
+    }
+
+    fn read(&self) -> Entry {
+        if self.kind == 0 {
+            fc_read
+        } else {
+            payload_read
+        }
+    }
+
+    fn bytes(&self) -> usize {
+        [16, 72, 136, 264, 520][usize::from(self.kind)]
+    }
+
+    fn coded(&self) -> usize {
+        if self.rate == 1 {
+            4680
+        } else {
+            16 * self.bytes()
+        }
+    }
+
+    /// The coded bit of every item, straight from 01.
+    fn item_bits(&self) -> Vec<usize> {
+        let (places, symbols) = if self.band == 0 { (411, 4) } else { (131, 12) };
+        if self.kind > 0 {
+            let per_symbol = places * [1, 2, 4][usize::from(self.modulation)];
+            let items = self.coded().div_ceil(per_symbol) * per_symbol;
+            return (0..items).map(|n| n % self.coded()).collect();
+        }
+        let offsets = [0, 192, 160, 96, 144, 80, 48, 240, 24, 184, 136, 40];
+        let mut bits = Vec::new();
+        for o in &offsets[..symbols] {
+            for c in 0..places {
+                bits.extend([(c + o) % 256, (c + o + 128) % 256]);
+            }
+        }
+        bits
+    }
+
+    /// Sends a block and gives exactly the items.
+    fn sent(&self, block: &[u8]) -> Vec<u8> {
+        let mut out = vec![7; self.item_bits().len()];
+        assert_eq!(
+            self.send()(&self.card(), block, &mut out),
+            Report::done(out.len())
+        );
+        out
+    }
+}
+
+/// All defined modes, with the given taps.
+fn modes(taps: u16) -> Vec<Mode> {
+    let mut modes = Vec::new();
+    for band in 0..2 {
+        modes.push(Mode {
+            band,
+            kind: 0,
+            rate: 0,
+            modulation: 1,
+            taps,
+        });
+        for modulation in 0..3 {
+            for (kind, rate) in [(1, 0), (2, 0), (3, 0), (4, 0), (4, 1)] {
+                modes.push(Mode {
+                    band,
+                    kind,
+                    rate,
+                    modulation,
+                    taps,
+                });
+            }
+        }
+    }
+    modes
+}
+
+fn bits_of(bytes: &[u8]) -> Vec<u8> {
+    bytes
+        .iter()
+        .flat_map(|byte| (0..8).map(move |k| byte >> (7 - k) & 1))
+        .collect()
+}
+
+/// What a reading side must answer, by the words of 01 and by other code than the entries'.
+fn plain_read(mode: &Mode, items: &[u8]) -> Result<Vec<u8>, Report> {
+    if let Some(n) = (0..items.len()).find(|&n| ![0, 1, 2].contains(&items[n])) {
+        return Err(Report::refused(6, n as u64));
+    }
+    let mut counts = vec![[0; 3]; mode.coded()];
+    for (&item, bit) in items.iter().zip(mode.item_bits()) {
+        counts[bit][usize::from(item)] += 1;
+    }
+    if let Some(bit) = counts.iter().position(|count| count[0] == count[1]) {
+        return Err(Report::refused(7, bit as u64));
+    }
+    let mut joined = vec![0; mode.coded()];
+    interleaver::for_each_coded(mode.kind, mode.rate, |to, from| {
+        joined[from] = u8::from(counts[to][1] > counts[to][0]);
+    });
+    let (data, parity) = joined.split_at(8 * mode.bytes());
+    let mut block: Vec<u8> = data
+        .chunks(8)
+        .map(|bits| (0..8).map(|k| bits[k] << (7 - k)).sum())
+        .collect();
+    let mut anew = vec![0; parity.len()];
+    turbo::encode(mode.kind, mode.rate, mode.taps, &block, &mut anew);
+    let wrong = (0..parity.len()).filter(|&n| anew[n] != parity[n]).count();
+    if wrong > 0 {
+        return Err(Report::refused(8, wrong as u64));
+    }
+    if mode.kind > 0 {
+        scramble(&mut block);
+    }
+    Ok(block)
+}
+
+/// Reads items and holds the answer and every byte of the output against `plain_read`.
+fn check_read(mode: &Mode, items: &[u8]) -> Report {
+    let mut out = vec![0xA5; mode.bytes() + 3];
+    let report = mode.read()(&mode.card(), items, &mut out);
+    match plain_read(mode, items) {
+        Ok(block) => {
+            assert_eq!(report, Report::done(mode.bytes()), "{mode:?}");
+            assert_eq!(out[..mode.bytes()], block);
+            assert_eq!(out[mode.bytes()..], [0xA5; 3]);
+        }
+        Err(refusal) => {
+            assert_eq!(report, refusal, "{mode:?}");
+            assert!(out.iter().all(|&byte| byte == 0xA5));
+        }
+    }
+    report
+}
+
+// The bench checks.
+
+#[test]
+fn p1_first_sixteen_scrambler_bits() {
+    let mut block = [0, 0];
+    scramble(&mut block);
+    assert_eq!(block, [0x1C, 0x4E]);
+    let mut register = Scrambler::new();
+    for expected in bits_of(&[0x1C, 0x4E]) {
+        let (bit, next) = register.step();
+        assert_eq!(bit, expected);
+        register = next;
+    }
+}
+
+#[test]
+fn p2_interleaver_of_size_16() {
+    let from: Vec<usize> = interleaved_from(&SIZES[0]).collect();
+    assert_eq!((from[0], from[8], from[63]), (53, 45, 26));
+}
+
+#[test]
+fn p3_interleaver_of_size_72() {
+    assert_eq!(interleaved_from(&SIZES[1]).nth(18), Some(271));
+}
+
+#[test]
+fn p4_second_start_of_size_16() {
+    assert_eq!(SIZES[0].second_start(0b100), 0b001);
+}
+
+#[test]
+fn p5_second_start_of_size_136() {
+    assert_eq!(SIZES[2].second_start(0b100), 0b011);
+}
+
+#[test]
+fn p6_turns_of_nibbles() {
+    let mut order = Vec::new();
+    interleaver::for_each_coded(0, 0, |_, from| order.push(from));
+    // Nibble 2 is data row 4, nibble 8 is data row 16; R is 32, and b3 is 96 beyond b0.
+    assert_eq!(order[8..12], [4 + 96, 4, 4 + 32, 4 + 64]);
+    assert_eq!(order[32..36], [16, 16 + 32, 16 + 64, 16 + 96]);
+}
+
+#[test]
+fn p7_lanes_of_symbol_2_place_64() {
+    assert_eq!(carriers::lanes(2, 64), (0, 128));
+}
+
+#[test]
+fn p8_lanes_of_symbol_1_place_410() {
+    assert_eq!(carriers::lanes(1, 410), (154, 26));
+}
+
+fn copies(band: usize, bit: usize) -> usize {
+    let mut count = 0;
+    BANDS[band].for_each_lane(|_, carried| count += usize::from(carried == bit));
+    count
+}
+
+#[test]
+fn p9_copies_on_band_0() {
+    assert_eq!((copies(0, 0), copies(0, 27)), (13, 12));
+}
+
+#[test]
+fn p10_copies_on_band_1() {
+    assert_eq!((copies(1, 0), copies(1, 3)), (13, 12));
+}
+
+#[test]
+fn p11_the_card_of_the_example() {
+    let bytes = [0x12, 0x58, 0x8E, 0x00, 0x20, 0, 0, 0, 0, 0, 1];
+    let text = "version 1\nband 0\nkind 4\nrate 1\nmodulation 1\ntaps 10001000111\n\
+                serial 9007199254740993\n";
+    assert_eq!(card::text(&bytes), text);
+    let fields = Fields {
+        version: 1,
+        band: 0,
+        kind: 4,
+        rate: 1,
+        modulation: 1,
+        taps: 0b10001000111,
+        spare: 0,
+        serial: 9_007_199_254_740_993,
+    };
+    let mut out = [0; 11];
+    assert_eq!(card::write(&fields, &mut out), Report::done(11));
+    assert_eq!(out, bytes);
+    // Refused cards print their number alone: band 2, kind 5, version 2, spare 1.
+    for (index, byte, expected) in [(0, 0x1A, 3), (1, 0xD8, 3), (0, 0x22, 2), (2, 0x8F, 2)] {
+        let mut bad = bytes;
+        bad[index] = byte;
+        assert_eq!(card::text(&bad), format!("refused {expected}\n"));
+    }
+    assert_eq!(card::text(&bytes[..10]), "refused 1\n");
+}
+
+#[test]
+fn p12_layout_of_4680_coded_bits() {
+    let layout = carriers::layout(&BANDS[0], 2, interleaver::coded_bits(4, 1));
+    assert_eq!((layout.symbols, layout.pad), (6, 252));
+}
+
+// The entries.
+
+#[test]
+fn round_trips_in_all_defined_modes() {
+    let mut random = Random(1);
+    for taps in SOME_TAPS {
+        for mode in modes(taps) {
+            let block = random.bytes(mode.bytes());
+            let needed = mode.item_bits().len();
+            let mut items = vec![7; needed + 5];
+            let report = mode.send()(&mode.card(), &block, &mut items);
+            assert_eq!(report, Report::done(needed), "{mode:?}");
+            assert_eq!(items[needed..], [7; 5]);
+            assert!(items[..needed].iter().all(|&item| item < 2));
+            let mut back = vec![0xA5; mode.bytes() + 1];
+            let report = mode.read()(&mode.card(), &items[..needed], &mut back);
+            assert_eq!(report, Report::done(mode.bytes()), "{mode:?}");
+            assert_eq!(back[..mode.bytes()], block);
+            assert_eq!(back[mode.bytes()], 0xA5);
+        }
+    }
+}
+
+#[test]
+fn items_are_the_coded_bits_of_the_scrambled_block() {
+    let mut random = Random(2);
+    for mode in modes(731) {
+        let block = random.bytes(mode.bytes());
+        let mut input = block.clone();
+        if mode.kind > 0 {
+            scramble(&mut input);
+        }
+        let mut joined = bits_of(&input);
+        let mut parity = vec![0; mode.coded() - joined.len()];
+        turbo::encode(mode.kind, mode.rate, mode.taps, &input, &mut parity);
+        joined.extend(parity);
+        let mut coded = vec![0; mode.coded()];
+        interleaver::shuffle(mode.kind, mode.rate, &joined, &mut coded);
+        let expected: Vec<u8> = mode.item_bits().iter().map(|&bit| coded[bit]).collect();
+        assert_eq!(mode.sent(&block), expected);
+    }
+}
+
+#[test]
+fn counts_of_items() {
+    let count = |band, kind, rate, modulation| {
+        Mode {
+            band,
+            kind,
+            rate,
+            modulation,
+            taps: 0,
+        }
+        .item_bits()
+        .len()
+    };
+    assert_eq!(count(0, 0, 0, 1), 3288);
+    assert_eq!(count(1, 0, 0, 1), 3144);
+    assert_eq!(count(0, 4, 1, 1), 4932);
+    assert_eq!(count(0, 1, 0, 2), 1644);
+    assert_eq!(count(1, 4, 0, 0), 64 * 131);
+}
+
+#[test]
+fn both_sides_of_each_length() {
+    for mode in modes(1365) {
+        let (card, bytes, items) = (mode.card(), mode.bytes(), mode.item_bits().len());
+        for (entry, input, output) in [(mode.send(), bytes, items), (mode.read(), items, bytes)] {
+            for length in [0, input - 1, input + 1] {
+                let mut out = vec![0xA5; output];
+                let report = entry(&card, &vec![0; length], &mut out);
+                assert_eq!(report, Report::refused(4, length as u64));
+                assert!(out.iter().all(|&byte| byte == 0xA5));
+            }
+            for length in [0, output - 1] {
+                let mut out = vec![0xA5; length];
+                let report = entry(&card, &vec![0; input], &mut out);
+                assert_eq!(report, Report::refused(5, output as u64));
+                assert!(out.iter().all(|&byte| byte == 0xA5));
+            }
+        }
+    }
+}
+
+#[test]
+fn cards_are_refused_before_all_else() {
+    let good = Mode {
+        band: 0,
+        kind: 0,
+        rate: 0,
+        modulation: 1,
+        taps: 5,
+    }
+    .card();
+    let payload = Mode {
+        band: 0,
+        kind: 1,
+        rate: 0,
+        modulation: 1,
+        taps: 5,
+    }
+    .card();
+    let entries: [(Entry, &[u8; 11]); 4] = [
+        (fc_send, &payload),
+        (fc_read, &payload),
+        (payload_send, &good),
+        (payload_read, &good),
+    ];
+    for (entry, other) in entries {
+        let mut out = [0xA5; 3];
+        let mut number = |card: &[u8]| {
+            let report = entry(card, &[9; 5], &mut out);
+            assert_eq!(out, [0xA5; 3]);
+            (report.number, report.value)
+        };
+        assert_eq!(number(&good[..10]), (1, 10));
+        assert_eq!(number(&[0xFF; 12]), (1, 12));
+        assert_eq!(number(&[0xFF; 11]), (2, 0));
+        let band_2 = [0x18, 0x10, 0, 0, 0, 0, 0, 0, 0, 0, 0];
+        let kind_5 = [0x12, 0x90, 0, 0, 0, 0, 0, 0, 0, 0, 0];
+        assert_eq!(number(&band_2), (3, 0));
+        assert_eq!(number(&kind_5), (3, 0));
+        assert_eq!(number(other), (3, 0));
+    }
+}
+
+#[test]
+fn reading_refuses_in_row_order() {
+    for mode in modes(1095) {
+        let (card, read) = (mode.card(), mode.read());
+        let sent = mode.sent(&vec![0x3C; mode.bytes()]);
+        let mut out = vec![0xA5; mode.bytes()];
+        let short = mode.bytes() - 1;
+
+        // Everything wrong at once: the length, the room, the items.
+        let mut items = sent.clone();
+        items[7] = 255;
+        items[5] = 3;
+        items.push(9);
+        let report = read(&card, &items, &mut out[..short]);
+        assert_eq!(report, Report::refused(4, items.len() as u64));
+        items.pop();
+        let report = read(&card, &items, &mut out[..short]);
+        assert_eq!(report, Report::refused(5, mode.bytes() as u64));
+        assert_eq!(read(&card, &items, &mut out), Report::refused(6, 5));
+        items[5] = 2;
+        assert_eq!(read(&card, &items, &mut out), Report::refused(6, 7));
+
+        // All copies of bits 100 and 40 lost, and parity wrong besides.
+        let bits = mode.item_bits();
+        let mut parity_place = 0;
+        interleaver::for_each_coded(mode.kind, mode.rate, |to, from| {
+            if from == 8 * mode.bytes() + 3 {
+                parity_place = to;
+            }
+        });
+        let mut items = sent.clone();
+        for (item, &bit) in items.iter_mut().zip(&bits) {
+            if bit == parity_place {
+                *item ^= 1;
+            } else if bit == 100 || bit == 40 {
+                *item = 2;
+            }
+        }
+        assert_eq!(read(&card, &items, &mut out), Report::refused(7, 40));
+        for (item, (&bit, &was)) in items.iter_mut().zip(bits.iter().zip(&sent)) {
+            if bit != parity_place {
+                *item = was;
+            }
+        }
+        assert_eq!(read(&card, &items, &mut out), Report::refused(8, 1));
+        assert!(out.iter().all(|&byte| byte == 0xA5));
+
+        let all_lost = vec![2; sent.len()];
+        assert_eq!(read(&card, &all_lost, &mut out), Report::refused(7, 0));
+        let report = read(&card, &sent, &mut out);
+        assert_eq!(report, Report::done(mode.bytes()));
+        assert!(out.iter().all(|&byte| byte == 0x3C));
+    }
+}
+
+#[test]
+fn the_count_of_refusal_8() {
+    // The encoder is linear: wrong data bits alter the parity by the parity of the change.
+    let mut random = Random(3);
+    for taps in SOME_TAPS {
+        for mode in modes(taps) {
+            let mut change = vec![0; mode.bytes()];
+            for _ in 0..3 {
+                change[random.next(mode.bytes())] ^= 1 << random.next(8);
+            }
+            let mut parity = vec![0; mode.coded() - 8 * mode.bytes()];
+            turbo::encode(mode.kind, mode.rate, taps, &change, &mut parity);
+            let count = parity.iter().filter(|&&bit| bit == 1).count();
+
+            let block = random.bytes(mode.bytes());
+            let wrong: Vec<u8> = block.iter().zip(&change).map(|(a, b)| a ^ b).collect();
+            let data = bits_of(&change);
+            let mut flip = vec![0; mode.coded()];
+            interleaver::for_each_coded(mode.kind, mode.rate, |to, from| {
+                flip[to] = data.get(from).copied().unwrap_or(0);
+            });
+            let sent = mode.sent(&block);
+            let items: Vec<u8> = sent
+                .iter()
+                .zip(mode.item_bits())
+                .map(|(item, bit)| item ^ flip[bit])
+                .collect();
+            let mut out = vec![0xA5; mode.bytes()];
+            let report = mode.read()(&mode.card(), &items, &mut out);
+            if count > 0 {
+                assert_eq!(report, Report::refused(8, count as u64));
+                assert!(out.iter().all(|&byte| byte == 0xA5));
+            } else {
+                // Wrong data comes back as done where no parity tells, as with taps 0 (D12).
+                assert_eq!(report, Report::done(mode.bytes()));
+                assert_eq!(out, wrong);
+            }
+            assert_eq!(check_read(&mode, &items), report);
+        }
+    }
+}
+
+#[test]
+fn damage_is_judged_as_the_words_of_01_say() {
+    let mut random = Random(4);
+    let mut seen = [0; 10];
+    for round in 0..60 {
+        for mode in modes(SOME_TAPS[round % 6]) {
+            if mode.kind > 1 && round > 5 {
+                continue;
+            }
+            let block = random.bytes(mode.bytes());
+            let mut items = mode.sent(&block);
+            // From a few items to about a third, set to anything legal.
+            let hits = if round % 2 == 0 {
+                items.len() / (3 + round)
+            } else {
+                round / 6
+            };
+            for _ in 0..hits {
+                let at = random.next(items.len());
+                items[at] = random.next(3) as u8;
+            }
+            if round % 10 == 9 {
+                let at = random.next(items.len());
+                items[at] = 3 + random.next(253) as u8;
+            }
+            seen[check_read(&mode, &items).number as usize] += 1;
+        }
+    }
+    assert!(
+        [0, 6, 7, 8].iter().all(|&number| seen[number] > 0),
+        "{seen:?}"
+    );
+}
+
+#[test]
+fn few_wrong_frame_control_copies_are_outvoted() {
+    for band in 0..2 {
+        let mode = Mode {
+            band,
+            kind: 0,
+            rate: 0,
+            modulation: 1,
+            taps: 1095,
+        };
+        let word: Vec<u8> = (0..16).map(|n| n * 17).collect();
+        let sent = mode.sent(&word);
+        let bits = mode.item_bits();
+        for bit in 0..256 {
+            let places: Vec<usize> = (0..bits.len()).filter(|&n| bits[n] == bit).collect();
+            for wrong in 0..=places.len() {
+                let mut items = sent.clone();
+                for &place in &places[..wrong] {
+                    items[place] ^= 1;
+                }
+                let report = check_read(&mode, &items);
+                if 2 * wrong < places.len() {
+                    assert_eq!(report, Report::done(16));
+                } else if 2 * wrong == places.len() {
+                    assert_eq!(report, Report::refused(7, bit as u64));
+                } else {
+                    assert_ne!(report.number, 7);
+                }
+            }
+        }
+    }
+}
+
+#[test]
+fn pad_copies_vote() {
+    for mode in modes(2047).into_iter().filter(|mode| mode.kind > 0) {
+        let sent = mode.sent(&vec![0x77; mode.bytes()]);
+        let pad = sent.len() - mode.coded();
+        for bit in [0, pad / 2, pad - 1] {
+            // One wrong copy of two is a tie; one lost copy of two leaves the other to decide.
+            for place in [bit, mode.coded() + bit] {
+                let mut items = sent.clone();
+                items[place] ^= 1;
+                assert_eq!(check_read(&mode, &items), Report::refused(7, bit as u64));
+                items[place] = 2;
+                assert_eq!(check_read(&mode, &items), Report::done(mode.bytes()));
+            }
+        }
+        // A bit without a second copy that is lost has no majority.
+        let mut items = sent.clone();
+        items[pad] = 2;
+        assert_eq!(check_read(&mode, &items), Report::refused(7, pad as u64));
+    }
+}
