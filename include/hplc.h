@@ -45,6 +45,8 @@ enum hplc_number {
 #define HPLC_FC_BYTES 16
 #define HPLC_FC_ITEMS_BAND_0 3288
 #define HPLC_FC_ITEMS_BAND_1 3144
+#define HPLC_PAYLOAD_BYTES_MAX 520
+#define HPLC_PAYLOAD_ITEMS_MAX 9864
 
 /*
  * The fields of a job card: version, band, kind, rate, modulation, taps, spare, serial, in this order into `fields`.
@@ -85,6 +87,17 @@ uint32_t hplc_fc_send(const uint8_t *card, size_t card_len, const uint8_t *in, s
 /* The word of a frame control from all its received items. Refusals 1, 2, 3, 4, 5, 6, 7, 8. */
 uint32_t hplc_fc_read(const uint8_t *card, size_t card_len, const uint8_t *in, size_t in_len, uint8_t *out, size_t out_len,
                       uint64_t value[2]);
+
+/*
+ * The items of a payload block of 72, 136, 264 or 520 bytes by the card's kind: 1, 2 or 4 items a carrier by its modulation, by
+ * symbol, place and bit; at most HPLC_PAYLOAD_ITEMS_MAX. Refusals 1, 2, 3 (a frame-control card too), 9, 4, 5.
+ */
+uint32_t hplc_payload_send(const uint8_t *card, size_t card_len, const uint8_t *in, size_t in_len, uint8_t *out,
+                           size_t out_len, uint64_t value[2]);
+
+/* The block of a payload from all its received items. Refusals 1, 2, 3, 9, 4, 5, 6, 7, 8. */
+uint32_t hplc_payload_read(const uint8_t *card, size_t card_len, const uint8_t *in, size_t in_len, uint8_t *out,
+                           size_t out_len, uint64_t value[2]);
 
 #ifdef __cplusplus
 }

@@ -15,6 +15,7 @@ ghost use Rattle.diversity.specs.Units.{placeReport, subCarrierReport, placeOf,
 ghost use Rattle.card.specs.Entries.{readFields, writeCard};
 ghost use Rattle.card.specs.Text.{textCard};
 ghost use Rattle.frame_control.specs.Entries.{send as frameSend, read as frameRead};
+ghost use Rattle.payload.specs.Entries.{send as payloadSend, read as payloadRead};
 ghost use Rattle.tester.specs.Call.{Reported, Returned};
 
 // The fields of a card: version, band, kind, rate, modulation, taps, spare, serial.
@@ -162,5 +163,23 @@ pub extern "C" fn hplc_fc_read(
     ensures { λ n. ⌜ Returned (frameRead (now (card .entry)) (now (items .entry)) (now (out .entry))) n (now (value .exit)) (now (out .exit)) ⌝ }
 {
     let answer = frame_control::read(card, items, out);
+    refusal::report(answer, value)
+}
+
+// The items of a payload block.
+#[no_mangle]
+pub extern "C" fn hplc_payload_send(card: &[u8], block: &[u8], out: &mut [u8], value: &mut [u64; 2]) -> u32
+    ensures { λ n. ⌜ Returned (payloadSend (now (card .entry)) (now (block .entry)) (now (out .entry))) n (now (value .exit)) (now (out .exit)) ⌝ }
+{
+    let answer = payload::send(card, block, out);
+    refusal::report(answer, value)
+}
+
+// The block of a payload.
+#[no_mangle]
+pub extern "C" fn hplc_payload_read(card: &[u8], items: &[u8], out: &mut [u8], value: &mut [u64; 2]) -> u32
+    ensures { λ n. ⌜ Returned (payloadRead (now (card .entry)) (now (items .entry)) (now (out .entry))) n (now (value .exit)) (now (out .exit)) ⌝ }
+{
+    let answer = payload::read(card, items, out);
     refusal::report(answer, value)
 }
