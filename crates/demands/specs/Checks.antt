@@ -16,6 +16,7 @@ use Rattle.interleaver.specs.Source.{column}
 use Rattle.diversity.specs.Bands.{offsets, carriers, carrierCount, itemCount}
 use Rattle.diversity.specs.Lanes.{laneBit, rides, laneOf}
 use Rattle.diversity.specs.Votes.{copies}
+use Rattle.payload_layout.specs.Layouts.{symbolBits, symbolCount, padBits, layoutFor, layoutOf}
 
 -- a report of a card as numbers: 0 and its fields, or the refusal and its values
 abbrev numbers : Report Card → List ℕ
@@ -60,6 +61,8 @@ checks =
       numbers (readCard (0x12 ∷ 0x58 ∷ 0x8E ∷ 0x00 ∷ 0x20 ∷ 0x00 ∷ 0x00 ∷ 0x00 ∷ 0x00 ∷ 0x00 ∷ 0x01 ∷ [])),
       0 ∷ 1 ∷ 0 ∷ 4 ∷ 1 ∷ 1 ∷ 0b10001000111 ∷ 0 ∷ 9_007_199_254_740_993 ∷ [],
     )
+    -- P12: band 0, QPSK, 4,680 coded bits: symbols and pad
+    ∷ (layoutOf 0 1 4680 .symbols ∷ layoutOf 0 1 4680 .pad ∷ [], 6 ∷ 252 ∷ [])
     ∷ []
 
 -- each row agrees
@@ -68,5 +71,5 @@ Agree [] = Unit {0}
 Agree (row ∷ rows) = (row .0 ≡ row .1) × Agree rows
 
 pub checks-agree : Agree checks
-unfolding readCard cardOf definedMode field pack byteOf bitOf feedback shifted afterShifts scramblerBit startOf place offsets carriers carrierCount itemCount laneBit rides copies sum count placeBy plus
-checks-agree = (refl, (refl, (refl, (refl, (refl, (refl, (refl, (refl, (refl, (refl, (refl, (refl, tt))))))))))))
+unfolding readCard cardOf definedMode field pack byteOf bitOf feedback shifted afterShifts scramblerBit startOf place offsets carriers carrierCount itemCount laneBit rides copies sum count placeBy plus layoutOf layoutFor padBits symbolCount symbolBits
+checks-agree = (refl, (refl, (refl, (refl, (refl, (refl, (refl, (refl, (refl, (refl, (refl, (refl, (refl, tt)))))))))))))

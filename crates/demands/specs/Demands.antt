@@ -9,6 +9,14 @@ use Rattle.refusal.specs.Outcome.{Outcome}
 use Rattle.constellation.specs.Carriers.{throughPoints}
 use Rattle.diversity.specs.Bands.{carrierCount, itemCount, fewestCopies}
 use Rattle.diversity.specs.Damage.{Damage, altered, lost}
+use Rattle.card.specs.Card.{cardOf}
+use Rattle.card.specs.Modes.{blockBytes}
+use Rattle.interleaver.specs.Source.{codedBits}
+use Rattle.diversity.specs.Votes.{copies, wrongCopies, lostCopies}
+use Rattle.payload_layout.specs.Layouts.{items as itemsOf}
+use Rattle.payload_layout.specs.Items.{carries}
+use Rattle.payload.specs.Entries.{layoutOfCard, read as payloadRead}
+use Rattle.payload.specs.Words.{GoodCard as GoodPayloadCard, Block, made as payloadMade}
 use Rattle.frame_control.specs.Entries.{bandOf, read}
 use Rattle.frame_control.specs.Words.{GoodCard, Word, made}
 
@@ -26,6 +34,25 @@ ComesHome =
     (card word : List ℕ) → GoodCard card → Word word → (out back : List ℕ) → itemCount (bandOf card) ≤ length out → 16 ≤ length back
     → (read card (made card word out) back ≡ record { report = done 16; out = word ++ drop 16 back })
     × (tabulate (itemCount (bandOf card)) (throughPoints 1 (λ n. getD (made card word out) n 0)) ≡ made card word out)
+
+-- The same of every rightly sized payload block, through the points of the card's modulation.
+abbrev pub PayloadComesHome : Type 0
+PayloadComesHome =
+    (card block : List ℕ) → GoodPayloadCard card → Block (cardOf card .kind) block → (out back : List ℕ) → itemsOf (layoutOfCard card) ≤ length out
+    → blockBytes (cardOf card .kind) ≤ length back
+    → (payloadRead card (payloadMade card block out) back ≡ record { report = done (blockBytes (cardOf card .kind)); out = block ++ drop (blockBytes (cardOf card .kind)) back })
+    × (tabulate (itemsOf (layoutOfCard card)) (throughPoints (cardOf card .modulation) (λ n. getD (payloadMade card block out) n 0)) ≡ payloadMade card block out)
+
+-- A payload block comes back exact whenever for each coded bit twice its wrong copies plus its lost copies is below its copies.
+abbrev pub PayloadSurvives : Type 0
+PayloadSurvives =
+    (card block : List ℕ) → GoodPayloadCard card → Block (cardOf card .kind) block → (out received back : List ℕ) → itemsOf (layoutOfCard card) ≤ length out
+    → Damage (itemsOf (layoutOfCard card)) received → blockBytes (cardOf card .kind) ≤ length back
+    → ((b : ℕ) → b < codedBits (cardOf card .kind) (cardOf card .rate)
+    → 2 * wrongCopies (itemsOf (layoutOfCard card)) (carries (layoutOfCard card)) (payloadMade card block out) received b
+    + lostCopies (itemsOf (layoutOfCard card)) (carries (layoutOfCard card)) received b
+    < copies (itemsOf (layoutOfCard card)) (carries (layoutOfCard card)) b)
+    → payloadRead card received back ≡ record { report = done (blockBytes (cardOf card .kind)); out = block ++ drop (blockBytes (cardOf card .kind)) back }
 
 -- twice the altered plus the lost carriers of a reception, held against what was made
 abbrev pub harm : List ℕ → List ℕ → List ℕ → ℕ

@@ -164,3 +164,12 @@ module _ (card : List ℕ) (good : GoodCard card) where
     survives out received back room damage space few =
         block-back received back damage space (λ b h.
         decided-survives (layoutOfCard card) (blockBits card block) received b (bits-binary b) (damage .legal) (rw (made-is out room) at (few b h)))
+
+    -- what was made is so many bits
+    pub made-length : (out : List ℕ) → items (layoutOfCard card) ≤ length out → length (made card block out) ≡ items (layoutOfCard card)
+    made-length out room = ap length (made-is out room) ∙ length-tabulate (items (layoutOfCard card)) (sentOn (layoutOfCard card) (blockBits card block))
+
+    pub made-binary : (out : List ℕ) → items (layoutOfCard card) ≤ length out → (n : ℕ) → n < items (layoutOfCard card) → getD (made card block out) n 0 < 2
+    unfolding sentOn
+    made-binary out room n h =
+        rw (made-is out room, getD-tabulate (items (layoutOfCard card)) (sentOn (layoutOfCard card) (blockBits card block)) n 0 h) (bits-binary (carried (layoutOfCard card) n))

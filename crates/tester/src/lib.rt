@@ -168,7 +168,12 @@ pub extern "C" fn hplc_fc_read(
 
 // The items of a payload block.
 #[no_mangle]
-pub extern "C" fn hplc_payload_send(card: &[u8], block: &[u8], out: &mut [u8], value: &mut [u64; 2]) -> u32
+pub extern "C" fn hplc_payload_send(
+    card: &[u8],
+    block: &[u8],
+    out: &mut [u8],
+    value: &mut [u64; 2],
+) -> u32
     ensures { λ n. ⌜ Returned (payloadSend (now (card .entry)) (now (block .entry)) (now (out .entry))) n (now (value .exit)) (now (out .exit)) ⌝ }
 {
     let answer = payload::send(card, block, out);
@@ -177,7 +182,12 @@ pub extern "C" fn hplc_payload_send(card: &[u8], block: &[u8], out: &mut [u8], v
 
 // The block of a payload.
 #[no_mangle]
-pub extern "C" fn hplc_payload_read(card: &[u8], items: &[u8], out: &mut [u8], value: &mut [u64; 2]) -> u32
+pub extern "C" fn hplc_payload_read(
+    card: &[u8],
+    items: &[u8],
+    out: &mut [u8],
+    value: &mut [u64; 2],
+) -> u32
     ensures { λ n. ⌜ Returned (payloadRead (now (card .entry)) (now (items .entry)) (now (out .entry))) n (now (value .exit)) (now (out .exit)) ⌝ }
 {
     let answer = payload::read(card, items, out);
