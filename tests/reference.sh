@@ -1,0 +1,36 @@
+#!/usr/bin/env bash
+# The independent implementation: `tests` runs its own tests, `vectors` makes the vectors anew and compares them with those that
+# the programs are held against, `crosscheck` compares every call over the C interface (CALLS and SEED may be set).
+set -eu
+cd "$(dirname "$0")/.."
+build() { cargo build --quiet --release --offline --manifest-path reference/Cargo.toml "$@"; }
+
+case ${1-} in
+  tests)
+    cargo test --quiet --release --offline --manifest-path reference/Cargo.toml
+    ;;
+  vectors)
+    build
+    made=$(mktemp -d)
+    trap 'rm -rf "$made"' EXIT
+    for name in turbo interleaver; do
+      reference/target/release/vectors $name > "$made/$name"
+      cmp "$made/$name" "crates/${name}_vectors/stdout"
+    done
+    reference/target/release/vectors points > "$made/points"
+    cmp "$made/points" crates/constellation_vectors/stdout
+    if [ -d crates/vectors ]; then
+      reference/target/release/vectors entries "$made"
+      cmp "$made/entries.bin" crates/vectors/data/entries.bin
+    fi
+    ;;
+  crosscheck)
+    rt staticlib tester > /dev/null
+    HPLC_LIB_DIR=$PWD/target/staticlib build --features entries
+    reference/target/release/crosscheck --calls "${CALLS-200000}" ${SEED+--seed "$SEED"}
+    ;;
+  *)
+    echo "usage: tests/reference.sh tests|vectors|crosscheck" >&2
+    exit 2
+    ;;
+esac
