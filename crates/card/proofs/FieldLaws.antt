@@ -8,7 +8,7 @@ use Rattle.refusal.specs.declared.Refusal.{Refusal}
 use Rattle.refusal.specs.declared.Refusal.the-variants.{Room}
 use Rattle.refusal.specs.Report.{done, refusal}
 use Rattle.refusal.specs.Outcome.{Row, row, firstApplicable}
-use Rattle.refusal.proofs.OutcomeLaws.{settled, done-same, reported-done, refused-outcome, passed-outcome}
+use Rattle.refusal.proofs.OutcomeLaws.{outcomeBy, done-same, reported-done, refused-outcome, passed-outcome}
 use Rattle.card.specs.declared.Card.{Card}
 use Rattle.card.specs.Card.{cardOf, fieldsOf}
 use Rattle.card.specs.Entries.{cardRows, readCard, readFields}
@@ -29,8 +29,8 @@ pub fields-refused : (bytes fields : List ℕ) (r : Refusal) → readCard bytes 
 unfolding readFields
 fields-refused bytes fields r e = refused-outcome (cardRows bytes) (room fields) (cardOf bytes) r fields 8 (fieldsOf (cardOf bytes) ++ drop 8 fields) (sym (opened bytes) ∙ e)
 
-pub fields-read : (bytes fields : List ℕ) (c : Card) → readCard bytes ≡ done c → readFields bytes fields ≡ settled (room fields) fields 8 (fieldsOf c ++ drop 8 fields)
+pub fields-read : (bytes fields : List ℕ) (c : Card) → readCard bytes ≡ done c → readFields bytes fields ≡ outcomeBy (room fields) fields 8 (fieldsOf c ++ drop 8 fields)
 unfolding readFields
 fields-read bytes fields c e =
     passed-outcome (cardRows bytes) (room fields) (cardOf bytes) c fields 8 (fieldsOf (cardOf bytes) ++ drop 8 fields) (sym (opened bytes) ∙ e)
-    ∙ ap (λ d. settled (room fields) fields 8 (fieldsOf d ++ drop 8 fields)) (sym (card-read bytes c e))
+    ∙ ap (λ d. outcomeBy (room fields) fields 8 (fieldsOf d ++ drop 8 fields)) (sym (card-read bytes c e))

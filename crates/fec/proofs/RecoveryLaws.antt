@@ -14,7 +14,7 @@ use Rattle.bits.proofs.SumLaws.{count-none, count-ext}
 use Rattle.refusal.specs.declared.Refusal.the-variants.{Majority, Parity}
 use Rattle.refusal.specs.Report.{done, refusal}
 use Rattle.refusal.specs.Outcome.{Row, inOrder, rowOrder, outcome}
-use Rattle.refusal.proofs.OutcomeLaws.{NoneApplies, settled, outcome-good}
+use Rattle.refusal.proofs.OutcomeLaws.{NoneApplies, outcomeBy, outcome-good}
 use Rattle.card.specs.Modes.{blockBytes}
 use Rattle.turbo.specs.Puncture.{keptCount}
 use Rattle.turbo.specs.Parity.{keptBit}
@@ -37,7 +37,7 @@ none-applies kind rate taps e h p =
 module _ (kind rate taps : ℕ) (e : ℕ → ℕ) (out : List ℕ) where
   -- the rows are in the table's order, so that an entry's earlier rows can be put before them
   pub recovered-rows : recovered kind rate taps e out
-      ≡ settled (recoverRows kind rate taps e) out (blockBytes kind) (bytesOf (blockBytes kind) (dataBit kind rate e) ++ drop (blockBytes kind) out)
+      ≡ outcomeBy (recoverRows kind rate taps e) out (blockBytes kind) (bytesOf (blockBytes kind) (dataBit kind rate e) ++ drop (blockBytes kind) out)
   unfolding recovered
   recovered-rows = refl
 

@@ -19,7 +19,7 @@ use Rattle.refusal.specs.declared.Refusal.{Refusal}
 use Rattle.refusal.specs.declared.Refusal.the-variants.{Mode}
 use Rattle.refusal.specs.Report.{Report, done, refusal}
 use Rattle.refusal.specs.Outcome.{Row, row, firstApplicable, reported}
-use Rattle.refusal.proofs.OutcomeLaws.{NoneApplies, settled, none-outcome, done-same, reported-done, refused-report, passed-report, refused-outcome, passed-outcome}
+use Rattle.refusal.proofs.OutcomeLaws.{NoneApplies, outcomeBy, none-outcome, done-same, reported-done, refused-report, passed-report, refused-outcome, passed-outcome}
 use Rattle.card.specs.declared.Card.{Card}
 use Rattle.card.specs.Card.{cardOf}
 use Rattle.card.specs.Entries.{cardRows, readCard}
@@ -101,7 +101,7 @@ items-sent band taps word coded zeros out now e g =
     ap (λ (l : List ℕ). getD l (laneOf band n) 0) e
     ∙ getD-written (codedBits 0 0) (codedBit 0 0 taps (bitOf word)) zeros (laneOf band n) 0 (omega (arith, lane-below (carriers band) (offsets band) n, coded-half 0 (omega arith))))
 
-opened-recovery : (taps : ℕ) (e : ℕ → ℕ) (out : List ℕ) → recovered 0 0 taps e out ≡ settled (recoverRows 0 0 taps e) out 16 (bytesOf 16 (dataBit 0 0 e) ++ drop 16 out)
+opened-recovery : (taps : ℕ) (e : ℕ → ℕ) (out : List ℕ) → recovered 0 0 taps e out ≡ outcomeBy (recoverRows 0 0 taps e) out 16 (bytesOf 16 (dataBit 0 0 e) ++ drop 16 out)
 unfolding recovered
 opened-recovery taps e out = refl
 

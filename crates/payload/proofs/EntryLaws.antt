@@ -15,7 +15,7 @@ use Rattle.refusal.specs.declared.Refusal.{Refusal}
 use Rattle.refusal.specs.declared.Refusal.the-variants.{Pad, Length, Room, Item}
 use Rattle.refusal.specs.Report.{Report, done, refusal}
 use Rattle.refusal.specs.Outcome.{Row, Outcome, firstApplicable}
-use Rattle.refusal.proofs.OutcomeLaws.{settled, done-same, outcome-done, outcome-good, refused-outcome, passed-outcome, none-outcome}
+use Rattle.refusal.proofs.OutcomeLaws.{outcomeBy, done-same, outcome-done, outcome-good, refused-outcome, passed-outcome, none-outcome}
 use Rattle.card.specs.declared.Card.{Card}
 use Rattle.card.specs.Card.{cardOf}
 use Rattle.card.specs.Modes.{blockBytes}

@@ -13,7 +13,7 @@ use Rattle.refusal.specs.declared.Refusal.{Refusal}
 use Rattle.refusal.specs.declared.Refusal.the-variants.{Mode}
 use Rattle.refusal.specs.Report.{Report, done, refusal}
 use Rattle.refusal.specs.Outcome.{Row, row, Outcome, firstApplicable}
-use Rattle.refusal.proofs.OutcomeLaws.{settled, done-same, reported-done, refused-outcome, passed-outcome}
+use Rattle.refusal.proofs.OutcomeLaws.{outcomeBy, done-same, reported-done, refused-outcome, passed-outcome}
 use Rattle.card.specs.declared.Card.{Card}
 use Rattle.card.specs.Card.{cardOf}
 use Rattle.card.specs.Modes.{blockBytes}
@@ -42,7 +42,7 @@ module _ (card : List ℕ) where
   abbrev kindRow : List Row
   kindRow = row (eqb (cardOf card .kind) 0) Mode ∷ []
 
-  as-outcome : payloadCard card ≡ settled {B = ℕ} (cardRows card ++ kindRow) 0 (cardOf card) 0 .report
+  as-outcome : payloadCard card ≡ outcomeBy {B = ℕ} (cardRows card ++ kindRow) 0 (cardOf card) 0 .report
   unfolding payloadCard
   as-outcome = sym (report-of (payloadRows card) 0 (cardOf card) 0)
 
@@ -54,7 +54,7 @@ module _ (card : List ℕ) where
   payload-refused r e =
       as-outcome ∙ ap (λ (o : Outcome Card ℕ). o .report) (refused-outcome (cardRows card) kindRow (cardOf card) r 0 (cardOf card) 0 (sym opened ∙ e))
 
-  passed : (c : Card) → readCard card ≡ done c → payloadCard card ≡ settled {B = ℕ} kindRow 0 (cardOf card) 0 .report
+  passed : (c : Card) → readCard card ≡ done c → payloadCard card ≡ outcomeBy {B = ℕ} kindRow 0 (cardOf card) 0 .report
   passed c e =
       as-outcome ∙ ap (λ (o : Outcome Card ℕ). o .report) (passed-outcome (cardRows card) kindRow (cardOf card) c 0 (cardOf card) 0 (sym opened ∙ e))
 

@@ -13,18 +13,18 @@ use Rattle.refusal.specs.Report.{Report, done, refused, refusal, number}
 use Rattle.refusal.specs.Outcome.{Row, Outcome, firstApplicable, inOrder, rowOrder, reported, outcome}
 
 -- the outcome by rows that are in order
-abbrev pub settled : {A B : Type 0} → List Row → B → A → B → Outcome A B
-settled rows out a made = firstApplicable rows (λ r. record { report = refusal r; out = out }) (record { report = done a; out = made })
+abbrev pub outcomeBy : {A B : Type 0} → List Row → B → A → B → Outcome A B
+outcomeBy rows out a made = firstApplicable rows (λ r. record { report = refusal r; out = out }) (record { report = done a; out = made })
 
 abbrev chosen : {A B : Type 0} → Bool → Refusal → B → Outcome A B → Outcome A B
 chosen b r out rest = cond b (record { report = refusal r; out = out }) rest
 
-kept-by : {A B : Type 0} (rows : List Row) (out : B) (a : A) (made : B) → (number (settled rows out a made .report) ≡ 0 → ⊥) → settled rows out a made .out ≡ out
+kept-by : {A B : Type 0} (rows : List Row) (out : B) (a : A) (made : B) → (number (outcomeBy rows out a made .report) ≡ 0 → ⊥) → outcomeBy rows out a made .out ≡ out
 kept-by [] out a made h = absurd (h refl)
 kept-by {A} {B} (r ∷ rows) out a made h = go (r .applies) h (kept-by rows out a made)
   where
-    go : (b : Bool) → (number (chosen b (r .cause) out (settled rows out a made) .report) ≡ 0 → ⊥)
-        → ((number (settled rows out a made .report) ≡ 0 → ⊥) → settled rows out a made .out ≡ out) → chosen b (r .cause) out (settled rows out a made) .out ≡ out
+    go : (b : Bool) → (number (chosen b (r .cause) out (outcomeBy rows out a made) .report) ≡ 0 → ⊥)
+        → ((number (outcomeBy rows out a made .report) ≡ 0 → ⊥) → outcomeBy rows out a made .out ≡ out) → chosen b (r .cause) out (outcomeBy rows out a made) .out ≡ out
     go true k ih = refl
     go false k ih = ih k
 
@@ -98,20 +98,20 @@ done-by {A} (r ∷ rows) a d e = go (r .applies) refl e (done-by rows a d)
 pub reported-done : {A : Type 0} (rows : List Row) (a d : A) → reported rows a ≡ done d → NoneApplies (inOrder rowOrder rows) × (reported rows a ≡ done a)
 reported-done rows a d e = done-by (inOrder rowOrder rows) a d e
 
-settled-good : {A B : Type 0} (rows : List Row) (out : B) (a : A) (made : B) → NoneApplies rows → settled rows out a made ≡ record { report = done a; out = made }
-settled-good [] out a made none = refl
-settled-good (r ∷ rows) out a made (no-row, none) = rw no-row (settled-good rows out a made none)
+outcome-by-good : {A B : Type 0} (rows : List Row) (out : B) (a : A) (made : B) → NoneApplies rows → outcomeBy rows out a made ≡ record { report = done a; out = made }
+outcome-by-good [] out a made none = refl
+outcome-by-good (r ∷ rows) out a made (no-row, none) = rw no-row (outcome-by-good rows out a made none)
 
 -- where no row applies, the outcome is the answer and what was made
 pub outcome-good : {A B : Type 0} (rows : List Row) (out : B) (a : A) (made : B) → NoneApplies (inOrder rowOrder rows) → outcome rows out a made ≡ record { report = done a; out = made }
-outcome-good rows out a made none = settled-good (inOrder rowOrder rows) out a made none
+outcome-good rows out a made none = outcome-by-good (inOrder rowOrder rows) out a made none
 
-report-by : {A B : Type 0} (rows : List Row) (out : B) (a : A) (made : B) → settled rows out a made .report ≡ firstApplicable rows refusal (done a)
+report-by : {A B : Type 0} (rows : List Row) (out : B) (a : A) (made : B) → outcomeBy rows out a made .report ≡ firstApplicable rows refusal (done a)
 report-by [] out a made = refl
 report-by {A} {B} (r ∷ rows) out a made = go (r .applies) (report-by rows out a made)
   where
-    go : (b : Bool) → settled rows out a made .report ≡ firstApplicable rows refusal (done a)
-        → chosen b (r .cause) out (settled rows out a made) .report ≡ cond b (refusal (r .cause)) (firstApplicable rows refusal (done a))
+    go : (b : Bool) → outcomeBy rows out a made .report ≡ firstApplicable rows refusal (done a)
+        → chosen b (r .cause) out (outcomeBy rows out a made) .report ≡ cond b (refusal (r .cause)) (firstApplicable rows refusal (done a))
     go true ih = refl
     go false ih = ih
 
@@ -141,15 +141,15 @@ passed-first : {A X : Type 0} (rows rest : List Row) (a d : A) (f : Refusal → 
 passed-first rows rest a d f good e = none-first rows rest f good (done-by rows a d e .0)
 
 pub refused-outcome : {A B C : Type 0} (rows rest : List Row) (d : C) (r : Refusal) (out : B) (a : A) (made : B)
-    → firstApplicable rows refusal (done d) ≡ refusal r → settled (rows ++ rest) out a made ≡ record { report = refusal r; out = out }
+    → firstApplicable rows refusal (done d) ≡ refusal r → outcomeBy (rows ++ rest) out a made ≡ record { report = refusal r; out = out }
 refused-outcome rows rest d r out a made e = refused-first rows rest d r (λ x. record { report = refusal x; out = out }) (record { report = done a; out = made }) e
 
 pub passed-outcome : {A B C : Type 0} (rows rest : List Row) (d c : C) (out : B) (a : A) (made : B)
-    → firstApplicable rows refusal (done d) ≡ done c → settled (rows ++ rest) out a made ≡ settled rest out a made
+    → firstApplicable rows refusal (done d) ≡ done c → outcomeBy (rows ++ rest) out a made ≡ outcomeBy rest out a made
 passed-outcome rows rest d c out a made e = passed-first rows rest d c (λ x. record { report = refusal x; out = out }) (record { report = done a; out = made }) e
 
 -- rows that come first and do not apply
-pub none-outcome : {A B : Type 0} (rows rest : List Row) (out : B) (a : A) (made : B) → NoneApplies rows → settled (rows ++ rest) out a made ≡ settled rest out a made
+pub none-outcome : {A B : Type 0} (rows rest : List Row) (out : B) (a : A) (made : B) → NoneApplies rows → outcomeBy (rows ++ rest) out a made ≡ outcomeBy rest out a made
 none-outcome rows rest out a made none = none-first rows rest (λ x. record { report = refusal x; out = out }) (record { report = done a; out = made }) none
 
 pub refused-report : {A C : Type 0} (rows rest : List Row) (d : C) (r : Refusal) (a : A)
