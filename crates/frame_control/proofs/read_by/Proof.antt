@@ -1,5 +1,5 @@
 -- `frame_control::read_by` meets its contract: each return is a row of its table. Assumes nothing.
-use mathlib.Core.Path.{sym, ap, _∙_}
+use mathlib.Core.Path.{_≡_, sym, ap, _∙_}
 use mathlib.Core.Bool.{not}
 use native.Mathlib.Omega.{arith}
 use denote.Ref.{now}
@@ -26,7 +26,7 @@ returns-2 : tie.Need-returns-2
 unfolding readBy
 returns-2 c =
     let long = eq-eqb _ _ (rw (c .before .before .item-count .ensures) at (c .before .if1 .left)) in
-    let short = lt-ltb _ _ (c .if2 .taken) in
+    let short = lt-ltb (length (now (c .before .before .before .before .before .args .out))) 16 (omega (arith, c .if2 .taken)) in
     (simp (long, short), simp (long, short))
 
 first-above-requires : tie.Need-first-above-requires
@@ -36,7 +36,7 @@ returns-3 : tie.Need-returns-3
 unfolding readBy
 returns-3 c =
     let long = eq-eqb _ _ (rw (c .before .before .before .before .item-count .ensures) at (c .before .before .before .if1 .left)) in
-    let room = le-ltb _ _ (c .before .before .if2 .left) in
+    let room = le-ltb _ 16 (c .before .before .if2 .left) in
     let first = c .before .first-above .ensures in
     let bad = lt-ltb _ _ (rw first at (c .if3 .taken)) in
     (rw first (simp (long, room, bad)), simp (long, room, bad))

@@ -11,7 +11,7 @@ use Rattle.frame_control.proofs.send_by.Tie as tie
 returns : tie.Need-returns
 unfolding sendBy
 returns c =
-    let other = ne-eqb _ _ (c .if1 .taken) in
+    let other = ne-eqb _ 16 (c .if1 .taken) in
     (simp other, simp other)
 
 item-count-requires : tie.Need-item-count-requires
