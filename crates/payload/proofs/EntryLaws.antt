@@ -1,38 +1,34 @@
 -- What the entries come to, case by case: by what the card's rows report, and then by each row behind them. Assumes nothing.
-use mathlib.Core.Path.{_≡_, refl, sym, ap, ap₂, _∙_}
+use mathlib.Core.Path.{_≡_, refl, sym, ap, _∙_}
 use mathlib.Core.Bool.{not}
-use mathlib.Core.List.{List, [], _∷_, _++_}
-use Prim.Native.Nat.{ℕ, _+_, _*_, _≤_, _<_}
+use mathlib.Core.List.{List, [], _++_}
+use Prim.Native.Nat.{ℕ, _*_, _≤_, _<_}
 use native.Mathlib.Omega.{arith}
 use lib.Dec.{eqb, ltb}
-use lib.ListN.{length, getD, take, drop}
-use lib.Seq.{take-at}
+use lib.ListN.{length, drop}
 use borrow.Author.Tests.{lt-ltb, le-ltb, eq-eqb, ne-eqb, ltb-false}
-use Rattle.bits.specs.Bits.{bitOf, bytesOf}
+use Rattle.bits.specs.Bits.{bytesOf}
 use Rattle.bits.specs.Lists.{written, firstAbove}
 use Rattle.bits.proofs.BitLaws.{Binary}
 use Rattle.refusal.specs.declared.Refusal.{Refusal}
 use Rattle.refusal.specs.declared.Refusal.the-variants.{Pad, Length, Room, Item}
-use Rattle.refusal.specs.Report.{Report, done, refusal}
-use Rattle.refusal.specs.Outcome.{Row, Outcome, firstApplicable}
-use Rattle.refusal.proofs.OutcomeLaws.{outcomeBy, done-same, outcome-done, outcome-good, refused-outcome, passed-outcome, none-outcome}
+use Rattle.refusal.specs.Report.{done, refusal}
+use Rattle.refusal.specs.Outcome.{Outcome, firstApplicable}
+use Rattle.refusal.proofs.OutcomeLaws.{done-same, outcome-done, outcome-good, refused-outcome, passed-outcome, none-outcome, refused-alike}
 use Rattle.card.specs.declared.Card.{Card}
 use Rattle.card.specs.Card.{cardOf}
 use Rattle.card.specs.Modes.{blockBytes}
 use Rattle.scrambler.specs.Scrambler.{scrambled, scramble}
-use Rattle.bits.proofs.BitLaws.{length-bytes}
 use Rattle.scrambler.proofs.ScramblerLaws.{scramble-bytes}
 use Rattle.interleaver.specs.Layouts.{Defined}
 use Rattle.interleaver.specs.Source.{codedBits, codedAt}
 use Rattle.interleaver.proofs.InterleaverLaws.{coded-lt}
-use Rattle.fec.specs.Coding.{dataBits}
 use Rattle.fec.specs.Recovery.{dataBit, firstUndecided, recoverRows, recovered}
 use Rattle.fec.proofs.CodingLaws.{coded-count}
 use Rattle.fec.proofs.RecoveryLaws.{all-decided}
 use Rattle.payload_layout.specs.declared.Layout.{Layout}
 use Rattle.payload_layout.specs.Layouts.{items}
 use Rattle.payload.specs.Entries.{payloadRows, payloadCard, blockLayout, layoutOfCard, sentItem, sendRows, sendBy, send, decidedBit, blockMade, itemRows, readRows, decidedBlock, readBy, read}
-use Rattle.payload.proofs.Extra.{refused-alike}
 use Rattle.payload.proofs.ModeLaws.{card-served}
 
 -- ---- by what the card's rows report

@@ -1,4 +1,3 @@
-pub mod Extra
 pub mod ModeLaws
 pub mod EntryLaws
 pub mod BufferLaws

@@ -1,10 +1,10 @@
 -- What a card that the payload entries serve says of its mode, and the layout of its blocks. Assumes nothing.
 use mathlib.Core.Path.{_≡_, refl, sym, ap, subst, _∙_}
-use mathlib.Core.Bool.{Bool, true, false, not, _&&_, _||_}
+use mathlib.Core.Bool.{true, false, not, _&&_, _||_}
 use mathlib.Core.List.{List, [], _∷_, _++_}
 use Prim.Native.Nat.{ℕ, zero, suc, _+_, _-_, _*_, _≤_, _<_}
 use native.Mathlib.Omega.{arith}
-use lib.Dec.{T, eqb, leb, ltb}
+use lib.Dec.{T, eqb, leb}
 use borrow.Author.Tests.{eqb-true, not-false, eq-eqb, ne-eqb}
 use Rattle.bits.proofs.BitLaws.{field-lt}
 use Rattle.bits.proofs.BoolLaws.{both}
@@ -13,7 +13,7 @@ use Rattle.refusal.specs.declared.Refusal.{Refusal}
 use Rattle.refusal.specs.declared.Refusal.the-variants.{Mode}
 use Rattle.refusal.specs.Report.{Report, done, refusal}
 use Rattle.refusal.specs.Outcome.{Row, row, Outcome, firstApplicable}
-use Rattle.refusal.proofs.OutcomeLaws.{outcomeBy, done-same, reported-done, refused-outcome, passed-outcome}
+use Rattle.refusal.proofs.OutcomeLaws.{outcomeBy, done-same, reported-done, refused-outcome, passed-outcome, report-of}
 use Rattle.card.specs.declared.Card.{Card}
 use Rattle.card.specs.Card.{cardOf}
 use Rattle.card.specs.Modes.{blockBytes}
@@ -23,11 +23,10 @@ use Rattle.card.proofs.CardLaws.{defined-small}
 use Rattle.interleaver.specs.Layouts.{Defined}
 use Rattle.interleaver.specs.Source.{codedBits}
 use Rattle.interleaver.proofs.InterleaverLaws.{coded-half, coded-high, coded-le}
-use Rattle.payload_layout.specs.Layouts.{layoutOf, layoutFor, items, mostCoded, Laid}
+use Rattle.payload_layout.specs.Layouts.{layoutOf, layoutFor, Laid}
 use Rattle.payload_layout.proofs.LayoutLaws.{layout-laid}
 use Rattle.payload_layout.proofs.ModeLaws.{codedCount, mode-pad}
 use Rattle.payload.specs.Modes.{Served}
-use Rattle.payload.proofs.Extra.{report-of}
 use Rattle.payload.specs.Entries.{payloadRows, payloadCard, blockLayout}
 
 -- ---- the card

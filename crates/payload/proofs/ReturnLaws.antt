@@ -1,5 +1,5 @@
 -- Clean return and the law of the majority over the entries' outcome definitions. Assumes nothing.
-use mathlib.Core.Path.{_≡_, refl, sym, ap, _∙_}
+use mathlib.Core.Path.{_≡_, sym, ap, _∙_}
 use mathlib.Core.Bool.{true}
 use mathlib.Core.List.{List, _++_}
 use Prim.Native.Nat.{ℕ, _+_, _*_, _≤_, _<_}
@@ -34,7 +34,7 @@ use Rattle.payload_layout.proofs.ItemLaws.{clean as decided-clean, survives as 
 use Rattle.payload.specs.Modes.{Served}
 use Rattle.payload.specs.Entries.{payloadCard, layoutOfCard, sentItem, send, decidedBit, blockMade, decidedBlock, read}
 use Rattle.payload.specs.Words.{GoodCard, Block, made}
-use Rattle.payload.proofs.ModeLaws.{mode-served, layout-bits, layout-within, layout-served}
+use Rattle.payload.proofs.ModeLaws.{mode-served, layout-bits, layout-served}
 use Rattle.payload.proofs.EntryLaws.{send-passed, send-done, read-passed, read-decided, block-refused}
 
 -- the coded bits of a block under a card

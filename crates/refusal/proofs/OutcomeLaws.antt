@@ -1,7 +1,7 @@
 -- Laws of outcomes: a refusal keeps the lent memory, whatever the rows, and a report decides the answer. Assumes nothing.
 use mathlib.Core.Path.{_≡_, refl, sym, ap, _∙_}
 use mathlib.Core.Bool.{Bool, true, false, cond}
-use mathlib.Core.List.{List, [], _∷_, _++_}
+use mathlib.Core.List.{List, [], _∷_, _++_, append-nil}
 use Prim.{Unit}
 use Prim.Native.Nat.{ℕ}
 use native.Mathlib.Omega.{arith}
@@ -115,6 +115,10 @@ report-by {A} {B} (r ∷ rows) out a made = go (r .applies) (report-by rows out 
     go true ih = refl
     go false ih = ih
 
+-- an outcome's report is that of the rows alone
+pub report-of : {A B : Type 0} (rows : List Row) (out : B) (a : A) (made : B) → outcome rows out a made .report ≡ reported rows a
+report-of rows out a made = report-by (inOrder rowOrder rows) out a made
+
 -- where an outcome is done, no row applies
 pub outcome-done : {A B : Type 0} (rows : List Row) (out : B) (a d : A) (made : B) → outcome rows out a made .report ≡ done d → NoneApplies (inOrder rowOrder rows)
 outcome-done rows out a d made e = done-by (inOrder rowOrder rows) a d (sym (report-by (inOrder rowOrder rows) out a made) ∙ e) .0
@@ -147,6 +151,13 @@ refused-outcome rows rest d r out a made e = refused-first rows rest d r (λ x. 
 pub passed-outcome : {A B C : Type 0} (rows rest : List Row) (d c : C) (out : B) (a : A) (made : B)
     → firstApplicable rows refusal (done d) ≡ done c → outcomeBy (rows ++ rest) out a made ≡ outcomeBy rest out a made
 passed-outcome rows rest d c out a made e = passed-first rows rest d c (λ x. record { report = refusal x; out = out }) (record { report = done a; out = made }) e
+
+-- where the same rows refuse over some memory, they refuse by the same cause over any
+pub refused-alike : {A B : Type 0} (rows : List Row) (was : B) (a : A) (make : B) (r : Refusal) (out made : B)
+    → outcome rows was a make .report ≡ refusal r → outcome rows out a made ≡ record { report = refusal r; out = out }
+refused-alike rows was a make r out made e =
+    ap (λ (rs : List Row). outcomeBy rs out a made) (sym (append-nil (inOrder rowOrder rows)))
+    ∙ refused-outcome (inOrder rowOrder rows) [] a r out a made (sym (report-of rows was a make) ∙ e)
 
 -- rows that come first and do not apply
 pub none-outcome : {A B : Type 0} (rows rest : List Row) (out : B) (a : A) (made : B) → NoneApplies rows → outcomeBy (rows ++ rest) out a made ≡ outcomeBy rest out a made

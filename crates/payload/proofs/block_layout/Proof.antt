@@ -1,5 +1,5 @@
 -- `payload::block_layout` meets its contract: a served mode has few coded bits. Assumes nothing.
-use mathlib.Core.Path.{_≡_, ap, _∙_}
+use mathlib.Core.Path.{ap, _∙_}
 use Prim.Native.Nat.{ℕ}
 use native.Mathlib.Omega.{arith}
 use Rattle.interleaver.proofs.InterleaverLaws.{coded-le}

@@ -1,12 +1,10 @@
 -- `payload::read` meets its contract: the card decides, and then what is behind it. Assumes nothing.
-use mathlib.Core.Path.{_≡_, sym, ap, _∙_}
+use mathlib.Core.Path.{sym, ap, _∙_}
 use mathlib.Core.List.{List}
 use Prim.Native.Nat.{ℕ}
 use native.Mathlib.Omega.{arith}
-use Rattle.refusal.specs.Report.{done}
 use Rattle.refusal.specs.Outcome.{Outcome}
 use Rattle.card.specs.Entries.{cardRead}
-use Rattle.payload.specs.Entries.{payloadCard}
 use Rattle.payload.proofs.ModeLaws.{mode-served, taps-small}
 use Rattle.payload.proofs.EntryLaws.{read-refused, read-passed}
 use borrow.Author.Needs.{needs}

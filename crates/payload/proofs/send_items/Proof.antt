@@ -1,12 +1,8 @@
 -- `payload::send_items` meets its contract: the block is scrambled, its coded bits follow, and each item is a copy of one. Assumes nothing.
-use mathlib.Core.Path.{_≡_, sym, ap, _∙_}
-use Prim.Native.Nat.{ℕ, _≤_, _<_}
+use mathlib.Core.Path.{sym, _∙_}
 use native.Mathlib.Omega.{arith}
 use lib.ListN.{length}
-use Rattle.bits.specs.Bits.{bitOf}
-use Rattle.card.specs.Modes.{blockBytes}
 use Rattle.fec.proofs.CodingLaws.{few-bytes}
-use Rattle.interleaver.specs.Source.{codedBits}
 use Rattle.interleaver.proofs.InterleaverLaws.{coded-le}
 use Rattle.payload.proofs.BufferLaws.{scrambled-length, scrambled-room, scrambled-bits, coded-room, coded-length, items-written}
 use borrow.Author.Needs.{needs}
