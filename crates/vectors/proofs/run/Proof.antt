@@ -1,0 +1,74 @@
+-- `vectors::run` is safe and ends. The invariant: the arrays keep their lengths, and k is at most the most records. Assumes nothing.
+use mathlib.Core.Path.{_≡_}
+use Prim.Native.Nat.{_-_, _≤_}
+use lib.ListN.{length}
+use borrow.Author.Needs.{needs}
+use Rattle.vectors.proofs.run.Statement.{statement}
+use Rattle.vectors.proofs.run.Tie as tie
+
+abbrev Inv-loop : tie.InvT-loop
+Inv-loop fd records₀ mismatches₀ card₀ input₀ expected₀ k₀ t9 records mismatches card input expected k =
+    (length card ≡ 64) × (length input ≡ 10000) × (length expected ≡ 10000) × (k ≤ 1000000)
+
+abbrev μ-loop : tie.MeasureT-loop
+μ-loop fd records₀ mismatches₀ card₀ input₀ expected₀ k₀ t9 records mismatches card input expected k =
+    1000000 - k
+
+loop-holds : tie.Need-loop-holds Inv-loop μ-loop
+loop-holds c = search needs
+
+slice-aggregate-run-record : tie.Need-slice-aggregate-run-record Inv-loop μ-loop
+slice-aggregate-run-record c = search needs
+
+slice-aggregate-run-record-2 : tie.Need-slice-aggregate-run-record-2 Inv-loop μ-loop
+slice-aggregate-run-record-2 c = search needs
+
+slice-aggregate-run-record-3 : tie.Need-slice-aggregate-run-record-3 Inv-loop μ-loop
+slice-aggregate-run-record-3 c = search needs
+
+run-record-requires : tie.Need-run-record-requires Inv-loop μ-loop
+run-record-requires c κs = search needs
+
+counted-requires : tie.Need-counted-requires Inv-loop μ-loop
+counted-requires c κs = search needs
+
+returns : tie.Need-returns Inv-loop μ-loop
+returns c = search needs
+
+add-k : tie.Need-add-k Inv-loop μ-loop
+add-k c = search needs
+
+loop-less : tie.Need-loop-less Inv-loop μ-loop
+loop-less c = search needs
+
+loop-again : tie.Need-loop-again Inv-loop μ-loop
+loop-again c = search needs
+
+slice-aggregate-put-line : tie.Need-slice-aggregate-put-line Inv-loop μ-loop
+slice-aggregate-put-line c = search needs
+
+put-line-requires : tie.Need-put-line-requires Inv-loop μ-loop
+put-line-requires c κs = search needs
+
+returns-2 : tie.Need-returns-2 Inv-loop μ-loop
+returns-2 c = search needs
+
+pub run-spec : {M : Type 1} → statement M
+run-spec =
+    tie.close
+    (tie.spec
+    Inv-loop
+    μ-loop
+    loop-holds
+    slice-aggregate-run-record
+    slice-aggregate-run-record-2
+    slice-aggregate-run-record-3
+    run-record-requires
+    counted-requires
+    returns
+    add-k
+    loop-less
+    loop-again
+    slice-aggregate-put-line
+    put-line-requires
+    returns-2)
