@@ -2,7 +2,7 @@
 use mathlib.Core.Path.{_≡_, refl, sym, ap, _∙_}
 use mathlib.Core.Bool.{true, false}
 use mathlib.Core.List.{List, [], _∷_, _++_, append-assoc}
-use Prim.Native.Nat.{ℕ, suc, _+_, _-_, _/_, _%_, _^_, _≤_, _<_}
+use Prim.Native.Nat.{ℕ, suc, _+_, _*_, _-_, _/_, _%_, _^_, _≤_, _<_}
 use native.Mathlib.Decide.{decLt, ℕ-discrete}
 use native.Mathlib.Nat.{div-lt-iff-lt-mul, div-div-eq-div-mul, pow-suc, pow-le-pow-right, one-mul}
 use native.Mathlib.Numerals.{add-one}
@@ -11,9 +11,9 @@ use lib.Dec.{ltb}
 use lib.ListN.{length, set, take, drop, getD, length-append, length-drop}
 use lib.Seq.{paste, paste-suc, take-length, take-all, take-at, drop-at, length-take-le, drop-drop, getD-drop, getD-set-same, getD-set-other}
 use borrow.Author.Tests.{lt-ltb, le-ltb}
-use Rattle.bits.specs.Lists.{tabulate, lowest}
-use Rattle.bits.proofs.ListLaws.{lowest-here, lowest-none, lowest-le, tabulate-of, length-tabulate, getD-tabulate}
-use Rattle.text.specs.Text.{places, decimal, binary, line, appended}
+use Rattle.bits.specs.Lists.{tabulate, written, lowest}
+use Rattle.bits.proofs.ListLaws.{lowest-here, lowest-none, lowest-le, tabulate-of, length-tabulate, getD-tabulate, written-two, written-all}
+use Rattle.text.specs.Text.{places, decimal, binary, hexDigit, hexAt, line, appended}
 
 -- ---- decimal digits
 
@@ -188,3 +188,17 @@ appended-line buf b₁ b₂ b₃ b₄ at r₁ r₂ r₃ name value e₁ g₁ e�
     let valued = appended-more buf b₂ b₃ at r₂ (name ++ (32 ∷ [])) value spaced (omega arith) e₃ (omega arith) in
     appended-more buf b₃ b₄ at r₃ (name ++ (32 ∷ []) ++ value) (10 ∷ []) valued (omega arith) e₄ (omega arith)
     ∙ ap (appended buf at) (simp append-assoc)
+
+-- ---- hex digits
+
+-- the two digits of byte k, stored one after the other
+pub hex-written : (bytes : List ℕ) (k v w : ℕ) (out now : List ℕ) → 2 * k + 1 < length out → now ≡ written (2 * k) (hexAt bytes) out
+    → v ≡ hexDigit (getD bytes k 0 / 16) → w ≡ hexDigit (getD bytes k 0 % 16)
+    → set (set now (2 * k) v) (2 * k + 1) w ≡ written (2 * (k + 1)) (hexAt bytes) out
+unfolding hexAt
+hex-written bytes k v w out now h e f g =
+    let even : 2 * k % 2 ≡ 0 = omega arith in
+    let odd : (2 * k + 1) % 2 ≡ 1 = omega arith in
+    let here : 2 * k / 2 ≡ k = omega arith in
+    let there : (2 * k + 1) / 2 ≡ k = omega arith in
+    written-all _ _ _ _ _ (written-two (2 * k) v w (hexAt bytes) out now e h (rw (even, here) f) (rw (odd, there) g)) (omega arith)

@@ -1,11 +1,12 @@
 -- Text in ASCII: words, digits, lines, and a text that grows in a buffer. Assumes nothing.
+use mathlib.Core.Bool.{cond}
 use mathlib.Core.List.{List, [], _∷_, _++_}
 use Prim.Native.Char.{code}
 use Prim.Native.Nat.{ℕ, suc, _+_, _-_, _/_, _%_, _^_}
 use Prim.Native.String
 use Prim.Native.String.{String}
-use lib.Dec.{ltb}
-use lib.ListN.{length, take, drop}
+use lib.Dec.{eqb, ltb}
+use lib.ListN.{length, getD, take, drop}
 use Rattle.bits.specs.Bits.{bitAt}
 use Rattle.bits.specs.Lists.{tabulate, lowest}
 
@@ -25,6 +26,14 @@ decimal n = tabulate (places n) (λ i. 48 + n / 10 ^ (places n - 1 - i) % 10)
 -- the last `width` binary digits of a number
 unfoldable pub binary : ℕ → ℕ → List ℕ
 binary width n = tabulate width (λ i. 48 + bitAt (width - 1 - i) n)
+
+-- a hex digit, in lower case
+unfoldable pub hexDigit : ℕ → ℕ
+hexDigit n = cond (ltb n 10) (48 + n) (87 + n)
+
+-- digit i of some bytes in hex, two a byte
+unfoldable pub hexAt : List ℕ → ℕ → ℕ
+hexAt bytes i = hexDigit (cond (eqb (i % 2) 0) (getD bytes (i / 2) 0 / 16) (getD bytes (i / 2) 0 % 16))
 
 -- a name, a space, a value and a line end
 abbrev pub line : List ℕ → List ℕ → List ℕ

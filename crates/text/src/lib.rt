@@ -1,11 +1,11 @@
-// Text in ASCII, made in a buffer from the front: words, decimal digits and lines.
+// Text in ASCII, made in a buffer from the front: words, digits and lines.
 //
 // Internal: nothing here is a public entry. `at` is where the text so far ends; each function returns where it ends then.
 ghost use mathlib.Core.Path.{_≡_};
-ghost use Prim.Native.Nat.{_+_, _/_, _%_, _^_, _-_, _<_, _≤_};
+ghost use Prim.Native.Nat.{_+_, _*_, _/_, _%_, _^_, _-_, _<_, _≤_};
 ghost use lib.ListN.{length};
-ghost use Rattle.bits.specs.Lists.{tabulate};
-ghost use Rattle.text.specs.Text.{places, decimal, line, appended};
+ghost use Rattle.bits.specs.Lists.{tabulate, written};
+ghost use Rattle.text.specs.Text.{places, decimal, hexDigit, hexAt, line, appended};
 
 // Appends some bytes.
 pub fn append(buf: &mut [u8], at: usize, src: &[u8]) -> usize
@@ -70,4 +70,25 @@ pub fn append_number(buf: &mut [u8], at: usize, name: &[u8], n: u64) -> usize
     let digits = twenty_digits(n);
     let from = 20 - places_of(n);
     append_line(buf, at, name, &digits[from..])
+}
+
+// A hex digit.
+fn hex_digit(n: u8) -> u8
+    requires { ⌜ n < 16 ⌝ }
+    ensures { λ r. ⌜ r ≡ hexDigit n ⌝ }
+{
+    if n < 10 { 48 + n } else { 87 + n }
+}
+
+// Some bytes in hex, two digits a byte, at the start of `out`.
+pub fn hex(bytes: &[u8], out: &mut [u8])
+    requires { ⌜ 2 * length (now bytes) ≤ length (now out) ⌝ }
+    ensures { λ _. ⌜ now (out .exit) ≡ written (2 * length (now (bytes .entry))) (hexAt (now (bytes .entry))) (now (out .entry)) ⌝ }
+{
+    let mut k: usize = 0;
+    while k < bytes.len() {
+        out[2 * k] = hex_digit(bytes[k] / 16);
+        out[2 * k + 1] = hex_digit(bytes[k] % 16);
+        k += 1;
+    }
 }

@@ -1,0 +1,42 @@
+// What the programs share: files that arguments name, and a refusal's lines on standard output.
+//
+// Internal: nothing here is a public entry. What the system's calls do is assumed, as in every program.
+use libc::STDOUT_FILENO;
+use refusal::Refusal;
+ghost use Prim.Native.Nat.{_≤_};
+ghost use lib.ListN.{length};
+
+// Some bytes on standard output.
+pub fn put(bytes: &[u8]) {
+    io::write_all(STDOUT_FILENO, bytes);
+}
+
+// The first n of some bytes on standard output, or none where there are fewer.
+pub fn put_first(bytes: &[u8], n: usize) {
+    if n <= bytes.len() {
+        put(&bytes[..n]);
+    }
+}
+
+// The start of the file that argument i names, into `buf`: how many bytes there are. A file that is missing or cannot be opened counts
+// as empty.
+pub fn read_file(i: usize, buf: &mut [u8]) -> usize
+    ensures { λ n. ⌜ n ≤ length (now (buf .exit)) ⌝ }
+{
+    let mut path = io::buffer();
+    let length = os::arg(i, &mut path);
+    let fd = os::open_read(&path[..length]);
+    if fd < 0 {
+        return 0;
+    }
+    let n = io::read_full(fd, buf);
+    libc::close(fd);
+    n
+}
+
+// A refusal's number and what comes with it, a line each.
+pub fn put_refusal(r: Refusal) {
+    let mut text = [0u8; 56];
+    let n = job::refusal_lines(r, &mut text);
+    put_first(&text, n);
+}

@@ -1,0 +1,2 @@
+-- The laws of what `job` defines. Assumes nothing.
+pub mod JobLaws

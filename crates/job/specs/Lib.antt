@@ -1,0 +1,2 @@
+-- What the contracts of `job` cite. Assumes nothing.
+pub mod Jobs
