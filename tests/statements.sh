@@ -1,7 +1,8 @@
 #!/usr/bin/env bash
-# Every name and every must-fail edit that docs/STATEMENTS.md gives is there: `crate/path#name` and `crate/must-fail/label`.
+# Every name and every must-fail edit that a document gives is there: `crate/path#name` and `crate/must-fail/label`.
 set -u
 cd "$(dirname "$0")/.." || exit 1
+documents=(README.md docs/*.md)
 bad=0
 seen=0
 while IFS= read -r cite; do
@@ -10,8 +11,8 @@ while IFS= read -r cite; do
     *'#'*)
       file=crates/${cite%%#*}
       name=${cite#*#}
-      if ! [ -f "$file" ] || ! grep -qE "(^|[^[:alnum:]_·-])$name([^[:alnum:]_-]|$)" "$file"; then
-        printf 'not there: %s\n' "$cite"
+      if ! [ -f "$file" ] || ! grep -qE "^ *((pub|extern|\"C\"|fn|abbrev|unfoldable|record|data) +)*$name *[:({]" "$file"; then
+        printf 'not defined there: %s\n' "$cite"
         bad=1
       fi
       ;;
@@ -22,16 +23,16 @@ while IFS= read -r cite; do
       fi
       ;;
   esac
-done < <(grep -oE '`[a-z_]+/(must-fail/[a-z0-9_]+|[A-Za-z_/]+\.(antt|rt)#[^` ]+)`' docs/STATEMENTS.md | tr -d '`')
+done < <(grep -ohE '`[a-z_]+/(must-fail/[a-z0-9_]+|[A-Za-z_/]+\.(antt|rt)#[^` ]+)`' "${documents[@]}" | tr -d '`')
 if [ "$seen" -eq 0 ]; then
-  printf 'no name found in docs/STATEMENTS.md\n'
+  printf 'no name found in the documents\n'
   bad=1
 fi
-# The other way round: every must-fail edit is named there.
+# The other way round: every must-fail edit is named in one of them.
 for edit in crates/*/must-fail/*.edit; do
   label=${edit#crates/}
-  if ! grep -qF "\`${label%.edit}\`" docs/STATEMENTS.md; then
-    printf 'not named in docs/STATEMENTS.md: %s\n' "${label%.edit}"
+  if ! grep -qF "\`${label%.edit}\`" "${documents[@]}"; then
+    printf 'named in no document: %s\n' "${label%.edit}"
     bad=1
   fi
 done

@@ -6,21 +6,22 @@ use native.Mathlib.Nat.{mul-assoc, mul-comm}
 use native.Mathlib.Omega.{arith}
 use lib.ListN.{length, getD}
 use Rattle.bits.specs.Lists.{tabulate}
+use Rattle.bits.proofs.RangeLaws.{under}
 use Rattle.refusal.proofs.OutcomeLaws.{kept}
 use Rattle.constellation.specs.Carriers.{throughPoints}
 use Rattle.constellation.proofs.RoundTrip.{list-back}
-use Rattle.diversity.specs.Bands.{carrierCount, itemCount}
+use Rattle.diversity.specs.Bands.{carriers, carrierCount, itemCount}
 use Rattle.frame_control.specs.Entries.{bandOf, frameRows, wordRows, readRows, tapsOf, send, read}
 use Rattle.frame_control.specs.Words.{made}
 use Rattle.frame_control.proofs.FrameLaws.{clean, comes-back, refused-at-limit, made-length, made-binary}
 use Rattle.card.specs.Card.{cardOf}
-use Rattle.card.specs.Modes.{carrierBits}
+use Rattle.card.specs.Modes.{blockBytes, carrierBits}
 use Rattle.payload_layout.specs.Layouts.{symbolBits, layoutFor, layoutOf, items}
 use Rattle.payload.specs.Entries.{payloadRows, layoutOfCard, sendRows, send as payloadSend, readRows as payloadReadRows, read as payloadRead}
 use Rattle.payload.specs.Words.{made as payloadMade}
-use Rattle.payload.proofs.ModeLaws.{mode-served}
+use Rattle.payload.proofs.ModeLaws.{mode-served, layout-items}
 use Rattle.payload.proofs.ReturnLaws.{clean as payload-clean, survives as payload-back, made-length as payload-length, made-binary as payload-binary}
-use Rattle.demands.specs.Demands.{Keeps, ComesHome, PayloadComesHome, PayloadSurvives, Survives, BestPossible}
+use Rattle.demands.specs.Demands.{Keeps, ComesHome, PayloadComesHome, PayloadSurvives, Survives, BestPossible, Lengths}
 
 pub send-keeps : Keeps send
 unfolding send
@@ -76,3 +77,15 @@ payload-comes-home card block good is out back room space = (payload-clean card 
 
 pub payload-survives : PayloadSurvives
 payload-survives card block good is out received back room damage space few = payload-back card good block is out received back room damage space few
+
+pub lengths : Lengths
+unfolding itemCount carrierCount carriers
+lengths = (
+  refl,
+  refl,
+  λ card good.
+      let c = cardOf card in
+      let served = mode-served card c good in
+      let bytes = under 5 521 blockBytes tt (c .kind) (served .defined .kind-lt) in
+      (layout-items (c .band) (c .kind) (c .rate) (c .modulation) served, omega arith),
+)

@@ -71,3 +71,9 @@ BestPossible =
     (card word : List ℕ) → GoodCard card → Word word → (out back : List ℕ) → itemCount (bandOf card) ≤ length out → 16 ≤ length back
     → (items : List ℕ) × Damage (itemCount (bandOf card)) items
     × (harm card (made card word out) items ≡ fewestCopies (bandOf card)) × (number (read card items back .report) ≡ 7)
+
+-- The lengths that a caller makes room for: the items of a frame control by band, and the most items and bytes of a payload.
+abbrev pub Lengths : Type 0
+Lengths =
+    (itemCount 0 ≡ 3288) × (itemCount 1 ≡ 3144)
+    × ((card : List ℕ) → GoodPayloadCard card → (itemsOf (layoutOfCard card) ≤ 9864) × (blockBytes (cardOf card .kind) ≤ 520))

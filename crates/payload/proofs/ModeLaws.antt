@@ -23,9 +23,9 @@ use Rattle.card.proofs.CardLaws.{defined-small}
 use Rattle.interleaver.specs.Layouts.{Defined}
 use Rattle.interleaver.specs.Source.{codedBits}
 use Rattle.interleaver.proofs.InterleaverLaws.{coded-half, coded-high, coded-le}
-use Rattle.payload_layout.specs.Layouts.{layoutOf, layoutFor, Laid}
+use Rattle.payload_layout.specs.Layouts.{layoutOf, layoutFor, items, mostItems, Laid}
 use Rattle.payload_layout.proofs.LayoutLaws.{layout-laid}
-use Rattle.payload_layout.proofs.ModeLaws.{codedCount, mode-pad}
+use Rattle.payload_layout.proofs.ModeLaws.{codedCount, mode-pad, mode-items}
 use Rattle.payload.specs.Modes.{Served}
 use Rattle.payload.specs.Entries.{payloadRows, payloadCard, blockLayout}
 
@@ -139,3 +139,8 @@ module _ (band kind rate modulation : ℕ) (S : Served band kind rate modulation
 
   pub layout-served : Laid (blockLayout band kind rate modulation)
   layout-served = layout-checked layout-within
+
+  pub layout-items : items (blockLayout band kind rate modulation) ≤ mostItems
+  layout-items =
+      rw (row-bits kind rate (S .payload) (S .defined))
+      (mode-items (kind - 1 + rate) band modulation (row-lt kind rate (S .payload) (S .defined)) (S .band-lt) (S .modulation-lt))

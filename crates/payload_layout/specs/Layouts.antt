@@ -34,6 +34,10 @@ items L = L .symbols * symbolBits (L .carriers) (L .bits)
 abbrev pub mostCoded : ℕ
 mostCoded = 8320
 
+-- the most items that a payload has: the same as 16QAM on band 0
+abbrev pub mostItems : ℕ
+mostItems = 9864
+
 -- the layouts that the payload's loops take: the coded bits and the pad fill the symbols, the pad is within the coded data, and the numbers
 -- are small
 pub record Laid (L : Layout) : Type 0 where

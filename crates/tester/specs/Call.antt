@@ -14,3 +14,7 @@ pub record Reported (r : Report ℕ) (n : ℕ) (value : List ℕ) : Type 0 where
 pub record Returned {A : Type 0} (o : Outcome ℕ A) (n : ℕ) (value : List ℕ) (out : A) : Type 0 where
   pub report-is : Reported (o .report) n value
   pub buffer-is : out ≡ o .out
+
+-- the version of the C interface, 1.0.0: minor number and patch have two digits each
+abbrev pub interfaceVersion : ℕ
+interfaceVersion = 10000

@@ -16,7 +16,17 @@ ghost use Rattle.card.specs.Entries.{readFields, writeCard};
 ghost use Rattle.card.specs.Text.{textCard};
 ghost use Rattle.frame_control.specs.Entries.{send as frameSend, read as frameRead};
 ghost use Rattle.payload.specs.Entries.{send as payloadSend, read as payloadRead};
-ghost use Rattle.tester.specs.Call.{Reported, Returned};
+ghost use Rattle.tester.specs.Call.{Reported, Returned, interfaceVersion};
+
+// The version of this interface.
+const VERSION: u32 = 10000;
+
+#[no_mangle]
+pub extern "C" fn hplc_version() -> u32
+    ensures { λ r. ⌜ r ≡ interfaceVersion ⌝ }
+{
+    VERSION
+}
 
 // The fields of a card: version, band, kind, rate, modulation, taps, spare, serial.
 #[no_mangle]
