@@ -1,8 +1,13 @@
 #!/usr/bin/env bash
 # The independent implementation: `tests` runs its own tests, `vectors` makes the vectors anew and compares them with those that
-# the programs are held against, `crosscheck` compares every call over the C interface (CALLS and SEED may be set).
+# the programs are held against, `crosscheck` compares every call over the C interface (CALLS and SEED may be set), `bench` times the
+# four entries of both (REPETITIONS may be set).
 set -eu
 cd "$(dirname "$0")/.."
+library() {
+  rt staticlib tester > /dev/null
+  HPLC_LIB_DIR=$PWD/target/staticlib build --features entries
+}
 build() { cargo build --quiet --release --offline --manifest-path reference/Cargo.toml "$@"; }
 
 case ${1-} in
@@ -25,12 +30,16 @@ case ${1-} in
     fi
     ;;
   crosscheck)
-    rt staticlib tester > /dev/null
-    HPLC_LIB_DIR=$PWD/target/staticlib build --features entries
+    library
     reference/target/release/crosscheck --calls "${CALLS-200000}" ${SEED+--seed "$SEED"}
     ;;
+  bench)
+    library 2> /dev/null
+    printf 'core: rt staticlib tester, %s\n' "$(rt version)"
+    reference/target/release/bench --repetitions "${REPETITIONS-300}"
+    ;;
   *)
-    echo "usage: tests/reference.sh tests|vectors|crosscheck" >&2
+    echo "usage: tests/reference.sh tests|vectors|crosscheck|bench" >&2
     exit 2
     ;;
 esac

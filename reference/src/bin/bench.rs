@@ -147,13 +147,8 @@ fn print_how_compiled() {
     if cfg!(debug_assertions) {
         println!("reference: NOT a release build, its times mean little");
     }
-    let file = env!("HPLC_LIB_FILE");
-    match fs::metadata(file) {
-        Ok(data) => println!(
-            "core: static library {file} of {} bytes, as it came",
-            data.len()
-        ),
-        Err(_) => println!("core: static library {file}, as it came"),
+    if let Ok(data) = fs::metadata(env!("HPLC_LIB_FILE")) {
+        println!("core: static library of {} bytes, as it came", data.len());
     }
 }
 
