@@ -4,7 +4,7 @@ use mathlib.Core.Bool.{Bool, true, false, cond, true≢false}
 use mathlib.Core.List.{List, [], _∷_, _++_, append-assoc, append-nil}
 use mathlib.Core.Logic.{_⊎_, inl, inr}
 use Prim.Native.Nat.{ℕ, zero, suc, _+_, _-_, _≤_, _<_}
-use native.Mathlib.Nat.{add-zero, add-suc, eq-or-lt-of-le, le-of-suc-le-suc, not-suc-le-zero, le-of-eq}
+use native.Mathlib.Nat.{add-zero, add-suc, eq-or-lt-of-le, le-of-suc-le-suc, not-suc-le-zero, le-of-eq, le-trans}
 use native.Mathlib.Decide.{ℕ-discrete}
 use native.Mathlib.Numerals.{add-one}
 use native.Mathlib.Omega.{arith}
@@ -13,7 +13,7 @@ use lib.ListN.{length, getD, take, drop, set, replicate, length-append, length-d
 use lib.Seq.{ext-getD, getD-set-same, getD-set-other, drop-cons, set-at, getD-at, take-at, drop-at, drop-drop, getD-append-add, getD-drop}
 use borrow.Author.Tests.{lt-ltb, le-ltb, ltb-false}
 use borrow.Rule.Slice.PartAt.{part-to-end}
-use Rattle.bits.specs.Lists.{tabulate, written, lowest, firstAbove}
+use Rattle.bits.specs.Lists.{tabulate, written, larger, largest, lowest, firstAbove}
 use Rattle.bits.proofs.NumberLaws.{lt-cases}
 
 module _ {A : Type 0} where
@@ -161,6 +161,26 @@ module _ {A : Type 0} where
   set-two a b (x ∷ []) h = absurd (omega arith)
   set-two a b (x ∷ y ∷ xs) h = refl
 
+-- ---- the largest element
+
+larger-le : (a b : ℕ) → (a ≤ larger a b) × (b ≤ larger a b)
+larger-le a b = lt-cases a b (λ l. rw (lt-ltb a b l) (omega arith, omega arith)) (λ l. rw (le-ltb a b l) (omega arith, omega arith))
+
+-- one turn of a loop
+pub largest-next : (n : ℕ) (f : ℕ → ℕ) → largest (n + 1) f ≡ larger (largest n f) (f n)
+unfolding largest
+largest-next n f = rw add-one
+
+pub largest-le : (n : ℕ) (f : ℕ → ℕ) (k : ℕ) → k < n → f k ≤ largest n f
+unfolding largest
+largest-le zero f k h = absurd (not-suc-le-zero h)
+largest-le (suc n) f k h = go (eq-or-lt-of-le (le-of-suc-le-suc h)) (largest-le n f k) (larger-le (largest n f) (f n))
+  where
+    go : (k ≡ n) ⊎ (k < n) → (k < n → f k ≤ largest n f) → (largest n f ≤ larger (largest n f) (f n)) × (f n ≤ larger (largest n f) (f n))
+        → f k ≤ larger (largest n f) (f n)
+    go (inl e) ih (low, high) = rw e high
+    go (inr l) ih (low, high) = le-trans (ih l) low
+
 -- ---- the lowest number at which a test holds
 
 pub lowest-here : (n : ℕ) (t : ℕ → Bool) (i : ℕ) → i < n → ((k : ℕ) → k < i → t k ≡ false) → t i ≡ true → lowest n t ≡ i
@@ -224,6 +244,10 @@ first-here limit xs i h none a =
 pub first-none : (limit : ℕ) (xs : List ℕ) → ((k : ℕ) → k < length xs → getD xs k 0 ≤ limit) → length xs ≡ firstAbove limit xs
 unfolding firstAbove
 first-none limit xs none = sym (lowest-none (length xs) (λ k. ltb limit (getD xs k 0)) (λ k l. le-ltb limit (getD xs k 0) (none k l)))
+
+-- no element is above the limit, since the largest is not
+pub first-largest : (limit : ℕ) (xs : List ℕ) → largest (length xs) (λ k. getD xs k 0) ≤ limit → length xs ≡ firstAbove limit xs
+first-largest limit xs h = first-none limit xs (λ k l. le-trans (largest-le (length xs) (λ k. getD xs k 0) k l) h)
 
 -- a search that found nothing: no element is above the limit
 pub none-above : (limit : ℕ) (xs : List ℕ) → length xs ≤ firstAbove limit xs → (k : ℕ) → k < length xs → getD xs k 0 ≤ limit

@@ -4,12 +4,32 @@
 ghost use mathlib.Core.Path.{_≡_};
 ghost use mathlib.Core.List.{_++_};
 ghost use Prim.Native.Nat.{_*_, _<_, _≤_};
-ghost use lib.ListN.{length, drop};
-ghost use Rattle.bits.specs.Lists.{written, firstAbove};
+ghost use lib.ListN.{length, getD, drop};
+ghost use Rattle.bits.specs.Lists.{written, larger as largerOf, largest, firstAbove};
 ghost use Rattle.bits.specs.Bits.{bitOf};
 
-// The lowest index of an element above `limit`, or the slice's length.
-pub fn first_above(s: &[u8], limit: u8) -> usize
+// The larger of two numbers.
+fn larger(a: u8, b: u8) -> u8
+    ensures { λ r. ⌜ r ≡ largerOf a b ⌝ }
+{
+    if a < b { b } else { a }
+}
+
+// The largest element, or 0 where there is none.
+fn largest(s: &[u8]) -> u8
+    ensures { λ r. ⌜ r ≡ largest (length (now (s .entry))) (λ k. getD (now (s .entry)) k 0) ⌝ }
+{
+    let mut most: u8 = 0;
+    let mut i: usize = 0;
+    while i < s.len() {
+        most = larger(most, s[i]);
+        i += 1;
+    }
+    most
+}
+
+// The lowest index of an element above `limit`, or the slice's length, one by one.
+fn search_above(s: &[u8], limit: u8) -> usize
     ensures { λ r. ⌜ r ≡ firstAbove limit (now (s .entry)) ⌝ }
 {
     let mut i: usize = 0;
@@ -20,6 +40,17 @@ pub fn first_above(s: &[u8], limit: u8) -> usize
         i += 1;
     }
     i
+}
+
+// The lowest index of an element above `limit`, or the slice's length. The largest element is found in vectors, a search is not, so
+// the search runs only where there is something to find.
+pub fn first_above(s: &[u8], limit: u8) -> usize
+    ensures { λ r. ⌜ r ≡ firstAbove limit (now (s .entry)) ⌝ }
+{
+    if largest(s) <= limit {
+        return s.len();
+    }
+    search_above(s, limit)
 }
 
 // All of `src` at the start of `out`.
