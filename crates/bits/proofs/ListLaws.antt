@@ -98,6 +98,15 @@ module _ {A : Type 0} where
       ext-getD d now (written n f out) (l ∙ sym (length-written n f out h)) (λ i b.
       lt-cases i n (λ c. low i c ∙ sym (getD-written n f out i d c)) (λ c. high i c ∙ sym (getD-kept n f out i d c)))
 
+  -- what was written below m is written over
+  pub written-over : (n m : ℕ) (f g : ℕ → A) (out : List A) → n ≤ m → written m f (written n g out) ≡ written m f out
+  unfolding written
+  written-over n m f g out h =
+      let e : n + (m - n) ≡ m = omega arith in
+      ap (λ (l : List A). tabulate m f ++ l)
+      (ap (λ (k : ℕ). drop k (tabulate n g ++ drop n out)) (sym e) ∙ sym (drop-drop (m - n) n (tabulate n g ++ drop n out))
+      ∙ ap (drop (m - n)) (drop-at (tabulate n g) (drop n out) n (length-tabulate n g)) ∙ drop-drop (m - n) n out ∙ ap (λ (k : ℕ). drop k out) e)
+
   -- a loop's turn: the value that belongs at n is stored there
   pub written-next : (n : ℕ) (v : A) (f : ℕ → A) (out now : List A) → now ≡ written n f out → n < length out → v ≡ f n → set now n v ≡ written (n + 1) f out
   unfolding written tabulate

@@ -1,16 +1,19 @@
 -- Laws of the scrambler: its bits are binary, a block keeps its length, and scrambling twice gives the block back.
 -- Assumes nothing.
 use mathlib.Core.Path.{_≡_, sym, ap, ap₂, _∙_}
-use mathlib.Core.List.{List}
-use Prim.Native.Nat.{ℕ, zero, suc, _+_, _*_, _<_}
+use mathlib.Core.List.{List, _++_}
+use Prim.Native.Nat.{ℕ, zero, suc, _+_, _-_, _*_, _<_, _≤_}
 use native.Mathlib.Nat.{add-zero, add-suc}
 use native.Mathlib.Numerals.{add-one}
 use native.Mathlib.Omega.{arith}
 use lib.Bits.{bitXor, xor-lt}
-use lib.ListN.{length, getD}
+use lib.ListN.{length, getD, drop}
+use Rattle.bits.specs.Lists.{written}
 use Rattle.bits.specs.Bits.{bitOf, pack, byteOf, bytesOf}
 use Rattle.bits.proofs.BitLaws.{Binary, pack-ext, xor-cancel, pack-xor, length-bytes, byte-bits, bit-binary, bits-bytes, bytes-bits, same-bits}
-use Rattle.scrambler.specs.Scrambler.{stage, feedback, shifted, afterShifts, scramblerBit, allOnes, scrambled, scramble}
+use Rattle.bits.proofs.ListLaws.{getD-written, written-ext, written-over}
+use Rattle.bits.proofs.RangeLaws.{agree, agree₃}
+use Rattle.scrambler.specs.Scrambler.{stage, feedback, shifted, afterShifts, scramblerBit, allOnes, scramblerByte, scrambled, scramble}
 
 -- ---- the register
 
@@ -44,6 +47,62 @@ pub scrambler-add : (r n m : ℕ) → scramblerBit (afterShifts r n) m ≡ scram
 unfolding scramblerBit
 scrambler-add r n m = rw (after-add r n m)
 
+-- the byte that eight steps give, from a register that has done those of n bytes
+pub register-byte : (n : ℕ) {q : ℕ} → q ≡ afterShifts allOnes (8 * n) → pack 8 (scramblerBit q) ≡ scramblerByte n
+unfolding byteOf scramblerByte
+register-byte n e = rw e (pack-ext 8 _ _ (λ j l. scrambler-add allOnes (8 * n) j))
+
+-- ---- a byte from earlier bytes
+
+-- a register stays within its ten stages
+after-lt : (n : ℕ) → afterShifts allOnes n < 1024
+unfolding afterShifts shifted
+after-lt zero = omega arith
+after-lt (suc n) = omega (arith, feedback-binary (afterShifts allOnes n))
+
+-- each bit is the exclusive-or of the bit `far` before it and the bit `near` after that one
+abbrev Follows : ℕ → ℕ → Type 0
+Follows near far = (n : ℕ) → scramblerBit allOnes (n + far) ≡ bitXor (scramblerBit allOnes n) (scramblerBit allOnes (n + near))
+
+-- stages 10 and 3 hold the bits that entered ten and three shifts before, as a test at every register shows
+every-register : (r : ℕ) → r < 1024 → scramblerBit r 10 ≡ bitXor (scramblerBit r 0) (scramblerBit r 7)
+unfolding scramblerBit feedback afterShifts shifted
+every-register = agree 1024 (λ r. scramblerBit r 10) (λ r. bitXor (scramblerBit r 0) (scramblerBit r 7)) tt
+
+follows-ten : Follows 7 10
+unfolding scramblerBit afterShifts
+follows-ten n =
+    sym (scrambler-add allOnes n 10) ∙ every-register (afterShifts allOnes n) (after-lt n) ∙ ap (bitXor (scramblerBit allOnes n)) (scrambler-add allOnes n 7)
+
+differ-twice : (x y z : ℕ) → x < 2 → y < 2 → z < 2 → bitXor (bitXor x y) (bitXor y z) ≡ bitXor x z
+differ-twice = agree₃ 2 2 2 (λ x y z. bitXor (bitXor x y) (bitXor y z)) (λ x y z. bitXor x z) tt
+
+-- squared: the same at twice the distances
+follows-twice : (near far : ℕ) → Follows near far → Follows (2 * near) (2 * far)
+follows-twice near far h n =
+    let b : ℕ → ℕ = scramblerBit allOnes in
+    let both : n + 2 * far ≡ n + far + far = omega arith in
+    let middle : n + far + near ≡ n + near + far = omega arith in
+    let last : n + near + near ≡ n + 2 * near = omega arith in
+    ap b both ∙ h (n + far) ∙ ap₂ bitXor (h n) (ap b middle ∙ h (n + near))
+    ∙ differ-twice (b n) (b (n + near)) (b (n + near + near)) (scrambler-binary allOnes _) (scrambler-binary allOnes _) (scrambler-binary allOnes _)
+    ∙ ap (λ (m : ℕ). bitXor (b n) (b m)) last
+
+-- squared three times it holds of bytes
+pub byte-follows : (i : ℕ) → 10 ≤ i → bitXor (scramblerByte (i - 10)) (scramblerByte (i - 3)) ≡ scramblerByte i
+unfolding byteOf scramblerByte
+byte-follows i h =
+    sym
+    (pack-ext 8 _ (λ j. bitXor (scramblerBit allOnes (8 * (i - 10) + j)) (scramblerBit allOnes (8 * (i - 3) + j))) bits
+    ∙ pack-xor 8 _ _ (λ j l. scrambler-binary allOnes (8 * (i - 10) + j)) (λ j l. scrambler-binary allOnes (8 * (i - 3) + j)))
+  where
+    bits : (j : ℕ) → j < 8 → scramblerBit allOnes (8 * i + j) ≡ bitXor (scramblerBit allOnes (8 * (i - 10) + j)) (scramblerBit allOnes (8 * (i - 3) + j))
+    bits j l =
+        let far : 8 * i + j ≡ 8 * (i - 10) + j + 80 = omega arith in
+        let near : 8 * (i - 10) + j + 56 ≡ 8 * (i - 3) + j = omega arith in
+        ap (scramblerBit allOnes) far ∙ follows-twice 28 40 (follows-twice 14 20 (follows-twice 7 10 follows-ten)) (8 * (i - 10) + j)
+        ∙ ap (λ (m : ℕ). bitXor (scramblerBit allOnes (8 * (i - 10) + j)) (scramblerBit allOnes m)) near
+
 -- ---- bits
 
 pub scrambled-binary : (d : ℕ → ℕ) (i : ℕ) → d i < 2 → scrambled d i < 2
@@ -67,14 +126,24 @@ pub block-binary : (bytes : List ℕ) (n : ℕ) → Binary n (scrambled (bitOf b
 block-binary bytes n j l = scrambled-binary (bitOf bytes) j (bit-binary bytes j)
 
 -- byte k of a scrambled block is the byte with the scrambler's next eight bits
-pub scrambled-byte : (bytes : List ℕ) (k : ℕ) → getD bytes k 0 < 256
-    → byteOf (scrambled (bitOf bytes)) k ≡ bitXor (getD bytes k 0) (pack 8 (scramblerBit (afterShifts allOnes (8 * k))))
-unfolding byteOf scrambled
+pub scrambled-byte : (bytes : List ℕ) (k : ℕ) → getD bytes k 0 < 256 → bitXor (getD bytes k 0) (scramblerByte k) ≡ byteOf (scrambled (bitOf bytes)) k
+unfolding byteOf scrambled scramblerByte
 scrambled-byte bytes k h =
-    let d : ℕ → ℕ = λ j. bitOf bytes (8 * k + j) in
-    let e : ℕ → ℕ = λ j. scramblerBit allOnes (8 * k + j) in
-    pack-xor 8 d e (λ j l. bit-binary bytes (8 * k + j)) (λ j l. scrambler-binary allOnes (8 * k + j))
-    ∙ ap₂ bitXor (byte-bits bytes k h) (pack-ext 8 e _ (λ j l. sym (scrambler-add allOnes (8 * k) j)))
+    sym
+    (pack-xor 8 (λ j. bitOf bytes (8 * k + j)) (λ j. scramblerBit allOnes (8 * k + j)) (λ j l. bit-binary bytes (8 * k + j)) (λ j l. scrambler-binary allOnes (8 * k + j))
+    ∙ ap (λ (b : ℕ). bitXor b (scramblerByte k)) (byte-bits bytes k h))
+
+-- the scrambler's bytes are written first, and the block's are added
+pub scramble-added : (bytes out run now : List ℕ) → ((k : ℕ) → getD bytes k 0 < 256) → run ≡ written (length bytes) scramblerByte out
+    → now ≡ written (length bytes) (λ k. bitXor (getD bytes k 0) (getD run k 0)) run → now ≡ scramble bytes ++ drop (length bytes) out
+unfolding scramble bytesOf written
+scramble-added bytes out run now small e d =
+    let n = length bytes in
+    let f = byteOf (scrambled (bitOf bytes)) in
+    d
+    ∙ written-ext n _ f run
+    (λ k h. ap (bitXor (getD bytes k 0)) (ap (λ (l : List ℕ). getD l k 0) e ∙ getD-written n scramblerByte out k 0 h) ∙ scrambled-byte bytes k (small k))
+    ∙ ap (written n f) e ∙ written-over n n f scramblerByte out (omega arith)
 
 pub length-scramble : (bytes : List ℕ) → length (scramble bytes) ≡ length bytes
 unfolding scramble

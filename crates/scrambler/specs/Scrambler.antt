@@ -4,7 +4,7 @@ use mathlib.Core.List.{List}
 use Prim.Native.Nat.{ℕ, zero, suc, _+_, _-_, _*_, _%_, _^_}
 use lib.Bits.{bitXor}
 use lib.ListN.{length}
-use Rattle.bits.specs.Bits.{bitAt, bitOf, bytesOf}
+use Rattle.bits.specs.Bits.{bitAt, bitOf, byteOf, bytesOf}
 
 -- the bit in stage i of the register r
 abbrev pub stage : ℕ → ℕ → ℕ
@@ -30,6 +30,10 @@ scramblerBit r n = feedback (afterShifts r n)
 -- each of the ten stages holds one
 abbrev pub allOnes : ℕ
 allOnes = 2 ^ 10 - 1
+
+-- byte k, from 0, that a register of all ones gives
+unfoldable pub scramblerByte : ℕ → ℕ
+scramblerByte = byteOf (scramblerBit allOnes)
 
 -- bit i of the scrambled data bits d
 unfoldable pub scrambled : (ℕ → ℕ) → ℕ → ℕ

@@ -3,10 +3,12 @@
 // Internal: nothing here is a public entry. A function with a `requires` is called only where its caller has shown it.
 ghost use mathlib.Core.Path.{_≡_};
 ghost use mathlib.Core.List.{_++_};
-ghost use Prim.Native.Nat.{_≤_};
-ghost use lib.ListN.{length, drop};
+ghost use Prim.Native.Nat.{ℕ, _<_, _≤_};
+ghost use lib.Bits.{bitXor};
+ghost use lib.ListN.{length, getD, drop};
 ghost use Rattle.bits.specs.Bits.{pack};
-ghost use Rattle.scrambler.specs.Scrambler.{feedback, shifted, afterShifts, scramblerBit, allOnes, scramble};
+ghost use Rattle.bits.specs.Lists.{written};
+ghost use Rattle.scrambler.specs.Scrambler.{feedback, shifted, afterShifts, scramblerBit, allOnes, scramblerByte, scramble};
 
 // Ten stages: stage i is bit i - 1. A step ignores the bits above them.
 pub struct Register(pub u16);
@@ -64,17 +66,65 @@ impl Register {
     }
 }
 
+// The scrambler's bytes by the register's own steps, at the start of `out`.
+fn step_bytes(count: usize, out: &mut [u8])
+    requires { ⌜ count ≤ length (now out) ⌝ }
+    ensures { λ _. ⌜ now (out .exit) ≡ written count scramblerByte (now (out .entry)) ⌝ }
+{
+    let mut register = Register::new();
+    let mut i: usize = 0;
+    while i < count {
+        let stepped = register.step_byte();
+        out[i] = stepped.byte;
+        register = stepped.register;
+        i += 1;
+    }
+}
+
+// The scrambler's bytes from its first ten: each is the exclusive-or of the bytes ten and three before it, which is far quicker than
+// eight steps of the register.
+fn follow_bytes(count: usize, out: &mut [u8])
+    requires { ⌜ (10 ≤ count) × (count ≤ length (now out)) × ((k : ℕ) → k < 10 → getD (now out) k 0 ≡ scramblerByte k) ⌝ }
+    ensures { λ _. ⌜ now (out .exit) ≡ written count scramblerByte (now (out .entry)) ⌝ }
+{
+    let mut i: usize = 10;
+    while i < count {
+        out[i] = out[i - 10] ^ out[i - 3];
+        i += 1;
+    }
+}
+
+// The scrambler's bytes, at the start of `out`.
+fn put_bytes(count: usize, out: &mut [u8])
+    requires { ⌜ count ≤ length (now out) ⌝ }
+    ensures { λ _. ⌜ now (out .exit) ≡ written count scramblerByte (now (out .entry)) ⌝ }
+{
+    if count < 10 {
+        step_bytes(count, out);
+        return;
+    }
+    step_bytes(10, out);
+    follow_bytes(count, out);
+}
+
+// The exclusive-or of each byte with what stands at its place in `out`.
+fn add_bytes(bytes: &[u8], out: &mut [u8])
+    requires { ⌜ length (now bytes) ≤ length (now out) ⌝ }
+    ensures { λ _. ⌜ now (out .exit) ≡ written (length (now (bytes .entry)))
+        (λ k. bitXor (getD (now (bytes .entry)) k 0) (getD (now (out .entry)) k 0)) (now (out .entry)) ⌝ }
+{
+    let mut i: usize = 0;
+    while i < bytes.len() {
+        out[i] = bytes[i] ^ out[i];
+        i += 1;
+    }
+}
+
 // A block, scrambled, at the start of `out`. Done twice it gives the block back, so it descrambles too.
 pub fn scramble(bytes: &[u8], out: &mut [u8])
     requires { ⌜ length (now bytes) ≤ length (now out) ⌝ }
     ensures { λ _. ⌜ now (out .exit) ≡ scramble (now (bytes .entry)) ++ drop (length (now (bytes .entry))) (now (out .entry)) ⌝ }
 {
-    let mut register = Register::new();
-    let mut i: usize = 0;
-    while i < bytes.len() {
-        let stepped = register.step_byte();
-        out[i] = bytes[i] ^ stepped.byte;
-        register = stepped.register;
-        i += 1;
-    }
+    put_bytes(bytes.len(), out);
+    add_bytes(bytes, out);
 }
