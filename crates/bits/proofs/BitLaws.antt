@@ -10,7 +10,8 @@ use lib.Arith.{bin-ind, digits-div, digits-mod}
 use lib.Bits.{bitXor, differ, xor-step, xor-self, xor-block}
 use lib.ListN.{length, getD}
 use lib.Pow.{shr-shr, mod-pow-add}
-use Rattle.bits.specs.Bits.{bitAt, bitOf, pack, byteOf, field, bytesOf}
+use Rattle.bits.specs.Lists.{tabulate}
+use Rattle.bits.specs.Bits.{bitAt, bitOf, nibble, pack, byteOf, field, bytesOf}
 use Rattle.bits.proofs.ListLaws.{length-tabulate, getD-tabulate, tabulate-of, tabulate-ext}
 use Rattle.bits.proofs.RangeLaws.{agree₂, under₂}
 
@@ -80,6 +81,22 @@ pack-bits (suc n) x =
 pub pack-shifted : (n s x : ℕ) → pack n (λ j. bitAt (s + (n - 1 - j)) x) ≡ x / 2 ^ s % 2 ^ n
 pack-shifted n s x = pack-ext n _ (λ j. bitAt (n - 1 - j) (x / 2 ^ s)) (λ j h. ap (λ (y : ℕ). y % 2) (sym (shr-shr x s (n - 1 - j)))) ∙ pack-bits n (x / 2 ^ s)
 
+-- ---- the bits of a byte by the words of its two halves
+
+module _ (words : List ℕ) (b j : ℕ) (held : words ≡ tabulate 16 nibble) (b-lt : b < 256) (j-lt : j < 4) where
+  word-at : (n : ℕ) → n < 16 → getD words n 0 / 2 ^ (8 * j) % 256 ≡ nibble n / 2 ^ (8 * j) % 256
+  word-at n h = ap (λ (w : ℕ). w / 2 ^ (8 * j) % 256) (ap (λ (l : List ℕ). getD l n 0) held ∙ getD-tabulate 16 nibble n 0 h)
+
+  pub word-high : getD words (b / 16) 0 / 2 ^ (8 * j) % 256 ≡ bitAt (7 - j) b
+  unfolding nibble
+  word-high =
+      word-at (b / 16) (omega arith) ∙ agree₂ 256 4 (λ b j. nibble (b / 16) / 2 ^ (8 * j) % 256) (λ b j. bitAt (7 - j) b) tt b j b-lt j-lt
+
+  pub word-low : getD words (b % 16) 0 / 2 ^ (8 * j) % 256 ≡ bitAt (7 - (4 + j)) b
+  unfolding nibble
+  word-low =
+      word-at (b % 16) (omega arith) ∙ agree₂ 256 4 (λ b j. nibble (b % 16) / 2 ^ (8 * j) % 256) (λ b j. bitAt (7 - (4 + j)) b) tt b j b-lt j-lt
+
 -- ---- exclusive-or
 
 differ-lt : (x y : ℕ) → x < 2 → y < 2 → differ x y < 2
@@ -115,6 +132,14 @@ field-in-byte bytes k i n h = pack-ext n _ (λ j. bitAt (8 - i - n + (n - 1 - j)
         let q : (8 * k + i + j) / 8 ≡ k = omega arith in
         let r : 7 - (8 * k + i + j) % 8 ≡ 8 - i - n + (n - 1 - j) = omega arith in
         rw (q, r)
+
+-- bit j of byte k
+pub byte-bit : (bytes : List ℕ) (k j : ℕ) → j < 8 → bitAt (7 - j) (getD bytes k 0) ≡ bitOf bytes (8 * k + j)
+unfolding bitOf
+byte-bit bytes k j h =
+    let q : (8 * k + j) / 8 ≡ k = omega arith in
+    let r : (8 * k + j) % 8 ≡ j = omega arith in
+    rw (q, r)
 
 -- a byte's bits, packed again, are the byte
 pub byte-bits : (bytes : List ℕ) (k : ℕ) → getD bytes k 0 < 256 → byteOf (bitOf bytes) k ≡ getD bytes k 0
