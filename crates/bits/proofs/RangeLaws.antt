@@ -15,7 +15,7 @@ at-each (suc n) f t k h =
     ⊎-elim (λ e. subst (λ (m : ℕ). T (f m)) (sym e) (and-left (f n) (allBelow n f) t)) (λ l. at-each n f (and-right (f n) (allBelow n f) t) k l)
     (eq-or-lt-of-le (le-of-suc-le-suc h))
 
--- two functions that agree below a bound, of one, two and three numbers
+-- two functions that agree below a bound, of one, two, three and four numbers
 pub agree : (n : ℕ) (f g : ℕ → ℕ) → T (allBelow n (λ k. eqb (f k) (g k))) → (k : ℕ) → k < n → f k ≡ g k
 agree n f g t k h = eqb→eq (f k) (g k) (at-each n (λ k. eqb (f k) (g k)) t k h)
 
@@ -27,6 +27,12 @@ pub agree₃ : (l m n : ℕ) (f g : ℕ → ℕ → ℕ → ℕ) → T (allBelow
     → (i j k : ℕ) → i < l → j < m → k < n → f i j k ≡ g i j k
 agree₃ l m n f g t i j k hi hj hk =
     agree₂ m n (f i) (g i) (at-each l (λ i. allBelow m (λ j. allBelow n (λ k. eqb (f i j k) (g i j k)))) t i hi) j k hj hk
+
+pub agree₄ : (k l m n : ℕ) (f g : ℕ → ℕ → ℕ → ℕ → ℕ)
+    → T (allBelow k (λ h. allBelow l (λ i. allBelow m (λ j. allBelow n (λ k. eqb (f h i j k) (g h i j k))))))
+    → (a b c d : ℕ) → a < k → b < l → c < m → d < n → f a b c d ≡ g a b c d
+agree₄ k l m n f g t a b c d ha hb hc hd =
+    agree₃ l m n (f a) (g a) (at-each k (λ h. allBelow l (λ i. allBelow m (λ j. allBelow n (λ k. eqb (f h i j k) (g h i j k))))) t a ha) b c d hb hc hd
 
 -- a function that stays under a bound
 pub under : (n b : ℕ) (f : ℕ → ℕ) → T (allBelow n (λ k. ltb (f k) b)) → (k : ℕ) → k < n → f k < b

@@ -13,7 +13,8 @@ use Rattle.turbo.specs.Pairs.{pairCount}
 use Rattle.turbo.specs.Puncture.{row, keptCount}
 use Rattle.turbo.specs.Parity.{keptBit}
 use Rattle.turbo.proofs.ParityLaws.{kept-binary, kept-ext}
-use Rattle.turbo.proofs.PunctureLaws.{kept-count}
+use Rattle.turbo.proofs.PunctureLaws.{kept-count, kept-le}
+use Rattle.turbo.proofs.StepLaws.{few-pairs}
 use Rattle.interleaver.specs.Layouts.{Defined, groups}
 use Rattle.interleaver.specs.Source.{codedBits, source}
 use Rattle.interleaver.proofs.InterleaverLaws.{source-lt}
@@ -46,6 +47,17 @@ module _ (kind rate : ℕ) (D : Defined kind rate) where
       agree₂ 5 2 (λ k r. (blockBytes k * 2 + blockBytes k * 2 / getD groups r 0) * 4) (λ k r. dataBits k + pairCount k / 8 * ones (row r)) tt
       kind rate (D .kind-lt) (D .rate-lt)
       ∙ ap (_+_ (dataBits kind)) (kept-count kind rate (D .kind-lt) (D .rate-lt))
+
+  -- the most parity bits, and those of frame control, with its coded bits
+  pub kept-most : keptCount kind rate ≤ 4160
+  kept-most = omega (arith, kept-le kind rate, few-pairs kind (D .kind-lt))
+
+  module _ (frame : kind ≡ 0) where
+    pub frame-kept : keptCount kind rate ≤ 128
+    frame-kept = let pairs : pairCount kind ≡ 64 = ap pairCount frame in omega (arith, kept-le kind rate)
+
+    pub frame-coded : codedBits kind rate ≤ 256
+    frame-coded = let bits : dataBits kind ≡ 128 = ap dataBits frame in omega (arith, coded-count, frame-kept)
 
   -- coded bits of bits are bits
   pub coded-binary : (taps : ℕ) (d : ℕ → ℕ) → Binary (dataBits kind) d → (i : ℕ) → codedBit kind rate taps d i < 2

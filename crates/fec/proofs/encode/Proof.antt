@@ -1,101 +1,48 @@
--- `fec::encode` meets its contract: the source bits are interleaved. Assumes nothing.
-use mathlib.Core.Path.{_≡_, sym, ap, _∙_}
-use mathlib.Core.List.{List}
-use Prim.Native.Nat.{ℕ, _≤_, _<_}
+-- `fec::encode` meets its contract: either array has room for the source bits. Assumes nothing.
 use native.Mathlib.Omega.{arith}
-use lib.ListN.{length, getD, take}
-use lib.Seq.{length-take-le, getD-take}
+use Rattle.interleaver.proofs.InterleaverLaws.{coded-le}
+use Rattle.fec.proofs.CodingLaws.{frame-coded}
 use borrow.Author.Needs.{needs}
-use Rattle.bits.specs.Bits.{bitOf}
-use Rattle.bits.specs.Lists.{written}
-use Rattle.bits.proofs.ListLaws.{length-written, getD-written, written-ext}
-use Rattle.interleaver.specs.Layouts.{Defined}
-use Rattle.interleaver.specs.Source.{codedBits, source}
-use Rattle.interleaver.proofs.InterleaverLaws.{coded-le, source-lt}
-use Rattle.fec.specs.Coding.{sourceBit, codedBit}
 use Rattle.fec.proofs.encode.Statement.{statement}
 use Rattle.fec.proofs.encode.Tie as tie
 
--- `bits` holds the source bits of the data bits d
-record Held (kind rate taps : ℕ) (d : ℕ → ℕ) (bits : List ℕ) : Type 0 where
-  room : codedBits kind rate ≤ length bits
-  held : (s : ℕ) → s < codedBits kind rate → getD bits s 0 ≡ sourceBit kind rate taps d s
+slice-aggregate-encode-by : tie.Need-slice-aggregate-encode-by
+slice-aggregate-encode-by c = search needs
 
-module _ {kind rate taps : ℕ} {d : ℕ → ℕ} {bits : List ℕ} (H : Held kind rate taps d bits) (coded : ℕ) (n : coded ≡ codedBits kind rate) where
-  coded-held : coded ≤ length bits
-  coded-held = omega (arith, H .room)
-
-  held-length : length (take coded bits) ≡ coded
-  held-length = length-take-le coded bits coded-held
-
-  -- the source bits in the interleaver's order are the coded bits
-  coded-written : Defined kind rate → (out : List ℕ)
-      → written (codedBits kind rate) (λ i. getD (take coded bits) (source kind rate i) 0) out ≡ written (codedBits kind rate) (codedBit kind rate taps d) out
-  unfolding codedBit
-  coded-written D out =
-      written-ext (codedBits kind rate) (λ i. getD (take coded bits) (source kind rate i) 0) (λ i. sourceBit kind rate taps d (source kind rate i)) out (λ i h.
-      let l : source kind rate i < codedBits kind rate = source-lt kind rate D i h in
-      getD-take coded bits (source kind rate i) 0 (omega arith) ∙ H .held (source kind rate i) l)
-
--- the local array has room for the source bits of every block
-fits : (z : tie.Start) → codedBits (z .args .kind) (z .args .rate) ≤ 8320
-fits z = coded-le (z .args .kind) (z .args .rate) (z .pre .0)
-
--- the function's entry, from the place where the source bits are written
-abbrev entry : tie.After-source-bits → tie.Start
-entry c = c .before .before .before .before
-
-filled : (c : tie.After-source-bits)
-    → Held (entry c .args .kind) (entry c .args .rate) (entry c .args .taps) (bitOf (entry c .args .bytes .now)) (c .source-bits .last .1 .1 .1 .1 .0)
-filled c =
-    let z = entry c in
-    let n = codedBits (z .args .kind) (z .args .rate) in
-    let f = sourceBit (z .args .kind) (z .args .rate) (z .args .taps) (bitOf (z .args .bytes .now)) in
-    let e = c .source-bits .ensures in
-    record {
-      room = omega (arith, fits z, ap length e ∙ length-written n f _ (fits z));
-      held = λ s l. ap (λ (b : List ℕ). getD b s 0) e ∙ getD-written n f _ s 0 l;
-    }
-
-slice-aggregate-source-bits : tie.Need-slice-aggregate-source-bits
-slice-aggregate-source-bits c = search needs
-
-source-bits-requires : tie.Need-source-bits-requires
-source-bits-requires c κs = let z = c .before .before .before in (z .pre .0, z .pre .1, fits z)
-
-coded-bits-requires : tie.Need-coded-bits-requires
-coded-bits-requires c κs = search needs
-
-array-share-prefix-source : tie.Need-array-share-prefix-source
-array-share-prefix-source c = coded-held (filled (c .before .before)) _ (c .coded-bits .ensures)
-
-slice-aggregate-interleave : tie.Need-slice-aggregate-interleave
-slice-aggregate-interleave c = sym (held-length (filled (c .before .before .before)) _ (c .before .coded-bits .ensures))
-
-interleave-requires : tie.Need-interleave-requires
-interleave-requires c κs =
-    let o = c .before .before in
-    let z = entry (o .before .before) in
-    (z .pre .0, held-length (filled (o .before .before)) _ (o .coded-bits .ensures) ∙ o .coded-bits .ensures, z .pre .2)
+encode-by-requires : tie.Need-encode-by-requires
+encode-by-requires c κs =
+    let z = c .before .before .before .before .before in
+    ((z .pre .0, z .pre .1), (frame-coded (z .args .kind) (z .args .rate) (z .pre .0) (omega arith), z .pre .2))
 
 same-length : tie.Need-same-length
 same-length c = search needs
 
 returns : tie.Need-returns
-returns c =
-    let o = c .before .before .before .before .before in
-    let z = entry (o .before .before) in
-    c .before .before .interleave .ensures ∙ coded-written (filled (o .before .before)) _ (o .coded-bits .ensures) (z .pre .0) (z .args .out .now)
+returns c = search needs
+
+slice-aggregate-encode-by-2 : tie.Need-slice-aggregate-encode-by-2
+slice-aggregate-encode-by-2 c = search needs
+
+encode-by-requires-2 : tie.Need-encode-by-requires-2
+encode-by-requires-2 c κs =
+    let z = c .before .before .before .before .before in
+    ((z .pre .0, z .pre .1), (coded-le (z .args .kind) (z .args .rate) (z .pre .0), z .pre .2))
+
+same-length-2 : tie.Need-same-length-2
+same-length-2 c = search needs
+
+returns-2 : tie.Need-returns-2
+returns-2 c = search needs
 
 pub encode-spec : {M : Type 1} → statement M
 encode-spec =
     tie.close
     (tie.spec
-    slice-aggregate-source-bits
-    source-bits-requires
-    coded-bits-requires
-    array-share-prefix-source
-    slice-aggregate-interleave
-    interleave-requires
+    slice-aggregate-encode-by
+    encode-by-requires
     same-length
-    returns)
+    returns
+    slice-aggregate-encode-by-2
+    encode-by-requires-2
+    same-length-2
+    returns-2)
