@@ -2,25 +2,28 @@
 use mathlib.Core.Path.{_≡_, refl, sym, ap, ap₂, _∙_}
 use mathlib.Core.Bool.{Bool, true, false, cond}
 use mathlib.Core.List.{List}
-use Prim.Native.Nat.{ℕ, zero, suc, _+_, _*_, _/_, _%_, _≤_, _<_}
+use Prim.Native.Nat.{ℕ, zero, suc, _+_, _-_, _*_, _/_, _%_, _^_, _≤_, _<_}
 use native.Mathlib.Numerals.{add-one}
 use native.Mathlib.Omega.{arith}
 use lib.Dec.{eqb, lit<}
 use lib.ListN.{length, getD, set}
-use Rattle.bits.specs.Bits.{bitOf}
+use Rattle.bits.specs.Bits.{bitOf, pack, byteOf, bytesOf}
 use Rattle.bits.specs.Lists.{written}
 use Rattle.bits.specs.Sums.{count}
-use Rattle.bits.proofs.ListLaws.{length-written, getD-written, written-two}
+use Rattle.bits.proofs.ListLaws.{getD-tabulate, length-written, getD-written, written-two, written-ext}
+use Rattle.bits.proofs.BitLaws.{bits-bytes}
 use Rattle.card.specs.Modes.{blockBytes}
 use Rattle.turbo.specs.Pairs.{pairCount, pairAt}
-use Rattle.turbo.specs.Encoder.{next, stateAt, ringStart, parityAt}
+use Rattle.turbo.specs.Encoder.{next, parity, stateAt, startOf, ringStart, parityAt}
 use Rattle.turbo.specs.Interleave.{place, exchangedAt, interleavedBy, interleaved}
 use Rattle.turbo.specs.Puncture.{kept, keptTime, keptCount}
-use Rattle.turbo.specs.Parity.{inputOf, keptBit, Inputs}
-use Rattle.turbo.proofs.RingLaws.{state-lt, parity-lt, parity-ext}
+use Rattle.turbo.specs.Bytes.{fourFrom}
+use Rattle.turbo.specs.Parity.{inputOf, keptBit, bothBits, punctured, Inputs}
+use Rattle.turbo.proofs.RingLaws.{state-lt, state-ext, parity-lt, parity-ext}
 use Rattle.turbo.proofs.InterleaveLaws.{place-permutes}
 use Rattle.turbo.proofs.PunctureLaws.{kept-time, time-lt}
-use Rattle.turbo.proofs.StepLaws.{pair-lt}
+use Rattle.turbo.proofs.StepLaws.{pair-lt, pair-read, four-read}
+use Rattle.turbo.proofs.ByteLaws.{stateBy, parityBy}
 
 -- ---- for callers
 
@@ -65,13 +68,6 @@ pub input-one : (kind : ℕ) (d : ℕ → ℕ) (t : ℕ) → pairAt d t ≡ inpu
 unfolding inputOf
 input-one kind d t = refl
 
--- the state of encoder n before pair t, in pass one and in pass two
-abbrev pub passOne : ℕ → ℕ → List ℕ → ℕ → ℕ → ℕ
-passOne kind taps bytes n t = stateAt taps (inputOf kind (bitOf bytes) n) 0 t
-
-abbrev pub passTwo : ℕ → ℕ → List ℕ → ℕ → ℕ → ℕ
-passTwo kind taps bytes n t = stateAt taps (inputOf kind (bitOf bytes) n) (ringStart kind taps (inputOf kind (bitOf bytes) n)) t
-
 module _ (taps : ℕ) (p : ℕ → ℕ) (s : ℕ) where
   -- no pair yet, and one more
   pub state-none : s ≡ stateAt taps p s 0
@@ -85,32 +81,116 @@ module _ (taps : ℕ) (p : ℕ → ℕ) (s : ℕ) where
   pub state-small : (t a : ℕ) → s < 8 → a ≡ stateAt taps p s t → a < 8
   state-small t a h ha = rw ha (state-lt taps p s h t)
 
-module _ (kind rate taps : ℕ) (d : ℕ → ℕ) (t : ℕ) (h : t < pairCount kind) (k : kept rate t ≡ true) where
+-- parity bit i of both encoders in turn
+both-at : (kind taps : ℕ) (d : ℕ → ℕ) (e i t : ℕ) → i % 2 ≡ e → i / 2 ≡ t → bothBits kind taps d i ≡ parityAt kind taps (inputOf kind d e) t
+unfolding bothBits
+both-at kind taps d e i t he ht = rw (he, ht)
+
+-- ---- both passes, over bytes of the pairs p
+
+module _ (kind taps : ℕ) (p : ℕ → ℕ) (bytes : List ℕ) (same : (t : ℕ) → t < pairCount kind → pairAt (bitOf bytes) t ≡ p t) where
+  -- where pass two starts when pass one ends at a, which is eight times a state
+  pub ring-from : (i a r : ℕ) → 4 * i ≡ pairCount kind → a ≡ stateBy taps bytes 0 (4 * i) * 8 → r ≡ startOf kind (a / 8) → r ≡ ringStart kind taps p
+  unfolding ringStart
+  ring-from i a r e ha hr =
+      let z : a / 8 ≡ stateBy taps bytes 0 (4 * i) = omega arith in
+      hr ∙ ap (startOf kind) (z ∙ ap (stateBy taps bytes 0) e ∙ state-ext taps (pairAt (bitOf bytes)) p 0 (pairCount kind) same)
+
+  -- what pass two gives
+  parity-by : (t : ℕ) → t < pairCount kind → parityBy taps bytes (ringStart kind taps p) t ≡ parityAt kind taps p t
+  unfolding parityAt
+  parity-by t h = ap₂ (parity taps) (state-ext taps (pairAt (bitOf bytes)) p (ringStart kind taps p) t (λ k l. same k (omega arith))) (same t h)
+
+  pub four-by : (i : ℕ) → 4 * i + 4 ≤ pairCount kind → fourFrom (parityBy taps bytes (ringStart kind taps p)) i ≡ fourFrom (parityAt kind taps p) i
+  four-by i h =
+      rw (parity-by (4 * i) (omega arith), parity-by (4 * i + 1) (omega arith), parity-by (4 * i + 2) (omega arith), parity-by (4 * i + 3) (omega arith))
+
+-- four parity bits of each encoder, in turn, are a byte
+pub both-byte : (kind taps : ℕ) (d : ℕ → ℕ) (i x y : ℕ) → x ≡ fourFrom (parityAt kind taps (inputOf kind d 0)) i
+    → y ≡ fourFrom (parityAt kind taps (inputOf kind d 1)) i → 2 * x + y ≡ byteOf (bothBits kind taps d) i
+unfolding byteOf pack
+both-byte kind taps d i x y hx hy =
+    let at = both-at kind taps d in
+    omega (
+      arith,
+      hx,
+      hy,
+      at 0 (8 * i + 0) (4 * i) (omega arith) (omega arith),
+      at 1 (8 * i + 1) (4 * i) (omega arith) (omega arith),
+      at 0 (8 * i + 2) (4 * i + 1) (omega arith) (omega arith),
+      at 1 (8 * i + 3) (4 * i + 1) (omega arith) (omega arith),
+      at 0 (8 * i + 4) (4 * i + 2) (omega arith) (omega arith),
+      at 1 (8 * i + 5) (4 * i + 2) (omega arith) (omega arith),
+      at 0 (8 * i + 6) (4 * i + 3) (omega arith) (omega arith),
+      at 1 (8 * i + 7) (4 * i + 3) (omega arith) (omega arith),
+    )
+
+-- the bits of such bytes are the parity bits again
+pub both-bits : (kind taps : ℕ) (d : ℕ → ℕ) (n : ℕ) (was packed : List ℕ) → packed ≡ written n (byteOf (bothBits kind taps d)) was
+    → (i : ℕ) → i < 8 * n → bitOf packed i ≡ bothBits kind taps d i
+unfolding bitOf bytesOf bothBits
+both-bits kind taps d n was packed e i h =
+    ap (λ (m : ℕ). m / 2 ^ (7 - i % 8) % 2)
+    (ap (λ (l : List ℕ). getD l (i / 8) 0) e
+    ∙ getD-written n (byteOf (bothBits kind taps d)) was (i / 8) 0 (omega arith)
+    ∙ sym (getD-tabulate n (byteOf (bothBits kind taps d)) (i / 8) 0 (omega arith)))
+    ∙ bits-bytes n (bothBits kind taps d) (λ j l. parity-lt kind taps (inputOf kind d (j % 2)) (j / 2)) i h
+
+-- ---- puncturing
+
+module _ (kind rate : ℕ) (b : ℕ → ℕ) (t : ℕ) (h : t < pairCount kind) (k : kept rate t ≡ true) where
   -- at a time that is kept the next two bits are its two
-  pub kept-here : (n : ℕ) → n < 2 → keptBit kind rate taps d (2 * count t (kept rate) + n) ≡ parityAt kind taps (inputOf kind d n) t
-  unfolding keptBit
+  kept-here : (n : ℕ) → n < 2 → punctured kind rate b (2 * count t (kept rate) + n) ≡ b (2 * t + n)
+  unfolding punctured
   kept-here n l =
-      let a : (2 * count t (kept rate) + n) % 2 ≡ n = omega arith in
-      let b : (2 * count t (kept rate) + n) / 2 ≡ count t (kept rate) = omega arith in
-      rw (a, b, kept-time kind rate t h k)
+      let e : (2 * count t (kept rate) + n) % 2 ≡ n = omega arith in
+      let q : (2 * count t (kept rate) + n) / 2 ≡ count t (kept rate) = omega arith in
+      rw (e, q, kept-time kind rate t h k)
 
   -- and they are written
-  pub kept-turn : (n v w : ℕ) (out now : List ℕ) → n ≡ 2 * count t (kept rate) → now ≡ written n (keptBit kind rate taps d) out
-      → n + 2 ≤ length out → v ≡ parityAt kind taps (inputOf kind d 0) t → w ≡ parityAt kind taps (inputOf kind d 1) t
-      → set (set now n v) (n + 1) w ≡ written (n + 2) (keptBit kind rate taps d) out
+  pub kept-turn : (n v w : ℕ) (out now : List ℕ) → n ≡ 2 * count t (kept rate) → now ≡ written n (punctured kind rate b) out
+      → n + 2 ≤ length out → v ≡ b (2 * t) → w ≡ b (2 * t + 1) → set (set now n v) (n + 1) w ≡ written (n + 2) (punctured kind rate b) out
   kept-turn n v w out now e f l hv hw =
       let z : n ≡ 2 * count t (kept rate) + 0 = omega arith in
-      let first : v ≡ keptBit kind rate taps d n = hv ∙ sym (kept-here 0 (lit< tt)) ∙ ap (keptBit kind rate taps d) (sym z) in
-      let second : w ≡ keptBit kind rate taps d (n + 1) = hw ∙ sym (kept-here 1 (lit< tt)) ∙ ap (λ (m : ℕ). keptBit kind rate taps d (m + 1)) (sym e) in
-      written-two n v w (keptBit kind rate taps d) out now f (omega arith) first second
+      let y : 2 * t ≡ 2 * t + 0 = omega arith in
+      let first : v ≡ punctured kind rate b n = hv ∙ ap b y ∙ sym (kept-here 0 (lit< tt)) ∙ ap (punctured kind rate b) (sym z) in
+      let second : w ≡ punctured kind rate b (n + 1) = hw ∙ sym (kept-here 1 (lit< tt)) ∙ ap (λ (m : ℕ). punctured kind rate b (m + 1)) (sym e) in
+      written-two n v w (punctured kind rate b) out now f (omega arith) first second
 
--- what both passes go over, once the pairs of encoder 2 are written
-pub inputs : (kind : ℕ) (bytes was second : List ℕ) → kind < 5 → length bytes ≡ blockBytes kind → pairCount kind ≤ length was
-    → second ≡ written (pairCount kind) (inputOf kind (bitOf bytes) 1) was → Inputs kind bytes second
+-- the kept ones of both encoders' parity bits
+pub punctured-kept : (kind rate taps : ℕ) (d b : ℕ → ℕ) → ((i : ℕ) → i < 8 * blockBytes kind → b i ≡ bothBits kind taps d i)
+    → (i : ℕ) → i < keptCount kind rate → punctured kind rate b i ≡ keptBit kind rate taps d i
+unfolding punctured keptBit
+punctured-kept kind rate taps d b e i h =
+    let t : ℕ = keptTime kind rate (i / 2) in
+    e (2 * t + i % 2) (omega (arith, time-lt kind rate i h)) ∙ both-at kind taps d (i % 2) (2 * t + i % 2) t (omega arith) (omega arith)
+
+-- the pairs of encoder 2, listed one by one
+module _ (kind : ℕ) (bytes was list : List ℕ) (e : list ≡ written (pairCount kind) (inputOf kind (bitOf bytes) 1) was) where
+  listed : (t : ℕ) → t < pairCount kind → getD list t 0 ≡ inputOf kind (bitOf bytes) 1 t
+  listed t h = ap (λ (l : List ℕ). getD l t 0) e ∙ getD-written (pairCount kind) (inputOf kind (bitOf bytes) 1) was t 0 h
+
+  pub listed-lt : (t : ℕ) → t < pairCount kind → getD list t 0 < 4
+  listed-lt t h = rw (listed t h) (input-lt kind 1 bytes t)
+
+  pub listed-four : (n : ℕ) (out : List ℕ) → n ≡ blockBytes kind
+      → written n (fourFrom (λ t. getD list t 0)) out ≡ written (blockBytes kind) (fourFrom (inputOf kind (bitOf bytes) 1)) out
+  listed-four n out q =
+      written-ext n (fourFrom (λ t. getD list t 0)) (fourFrom (inputOf kind (bitOf bytes) 1)) out
+      (λ i h. rw (listed (4 * i) (omega arith), listed (4 * i + 1) (omega arith), listed (4 * i + 2) (omega arith), listed (4 * i + 3) (omega arith)))
+      ∙ ap (λ (m : ℕ). written m (fourFrom (inputOf kind (bitOf bytes) 1)) out) q
+
+-- what both passes go over, once the pairs of encoder 2 are packed
+pub inputs : (kind : ℕ) (bytes was second : List ℕ) → kind < 5 → length bytes ≡ blockBytes kind → blockBytes kind ≤ length was
+    → second ≡ written (blockBytes kind) (fourFrom (inputOf kind (bitOf bytes) 1)) was → Inputs kind bytes second
 inputs kind bytes was second hk hb hw e =
     record {
       defined = hk;
       whole = hb;
-      room = rw (e, length-written (pairCount kind) (inputOf kind (bitOf bytes) 1) was) hw;
-      held = λ t h. ap (λ (l : List ℕ). getD l t 0) e ∙ getD-written (pairCount kind) (inputOf kind (bitOf bytes) 1) was t 0 h;
+      room = rw (e, length-written (blockBytes kind) (fourFrom (inputOf kind (bitOf bytes) 1)) was) hw;
+      held = λ t h.
+          sym (pair-read second t)
+          ∙ ap (λ (m : ℕ). m / 2 ^ (6 - 2 * (t % 4)) % 4)
+          (ap (λ (l : List ℕ). getD l (t / 4) 0) e ∙ getD-written (blockBytes kind) (fourFrom (inputOf kind (bitOf bytes) 1)) was (t / 4) 0 (omega arith))
+          ∙ four-read (inputOf kind (bitOf bytes) 1) (input-lt kind 1 bytes) t;
     }

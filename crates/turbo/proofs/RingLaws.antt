@@ -29,7 +29,7 @@ unfolding plus
 plus-lt a b ha hb = xor-lt 3 a b ha hb
 
 -- the step without input is linear
-linear : (s d : ℕ) → s < 8 → d < 8 → zeroInputStep (plus s d) ≡ plus (zeroInputStep s) (zeroInputStep d)
+pub linear : (s d : ℕ) → s < 8 → d < 8 → zeroInputStep (plus s d) ≡ plus (zeroInputStep s) (zeroInputStep d)
 unfolding plus zeroInputStep
 linear = agree₂ 8 8 (λ s d. zeroInputStep (plus s d)) (λ s d. plus (zeroInputStep s) (zeroInputStep d)) tt
 

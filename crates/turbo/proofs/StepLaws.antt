@@ -1,7 +1,7 @@
 -- The leaves' arithmetic on packed numbers is that of the rules. Assumes nothing.
-use mathlib.Core.Path.{_≡_, ap₂, _∙_}
+use mathlib.Core.Path.{_≡_, ap, ap₂, _∙_}
 use mathlib.Core.List.{List}
-use Prim.Native.Nat.{ℕ, _+_, _-_, _*_, _/_, _%_, _^_, _<_}
+use Prim.Native.Nat.{ℕ, zero, suc, _+_, _-_, _*_, _/_, _%_, _^_, _<_}
 use native.Mathlib.Nat.{mod-lt}
 use native.Mathlib.Omega.{arith}
 use lib.Dec.{lit<}
@@ -13,6 +13,7 @@ use Rattle.bits.specs.Bits.{bitOf}
 use Rattle.bits.proofs.BitLaws.{bit-binary}
 use Rattle.bits.proofs.RangeLaws.{agree, agree₂, under}
 use Rattle.turbo.specs.Pairs.{pairCount, pairAt}
+use Rattle.turbo.specs.Bytes.{fourFrom}
 use Rattle.turbo.specs.Encoder.{plus, zeroInputStep, tapB1, tapB2, next, parity}
 
 pub few-pairs : (kind : ℕ) → kind < 5 → pairCount kind < 2081
@@ -31,6 +32,17 @@ pair-read bytes t =
 pub pair-lt : (bytes : List ℕ) (t : ℕ) → pairAt (bitOf bytes) t < 4
 unfolding pairAt
 pair-lt bytes t = omega (arith, bit-binary bytes (2 * t), bit-binary bytes (2 * t + 1))
+
+-- one of four pairs in a byte
+pub four-read : (p : ℕ → ℕ) → ((t : ℕ) → p t < 4) → (t : ℕ) → fourFrom p (t / 4) / 2 ^ (6 - 2 * (t % 4)) % 4 ≡ p t
+four-read p h t = go (t / 4) (t % 4) (mod-lt t (lit< tt)) ∙ ap p (omega arith)
+  where
+    go : (i j : ℕ) → j < 4 → fourFrom p i / 2 ^ (6 - 2 * j) % 4 ≡ p (4 * i + j)
+    go i zero l = let z : 4 * i + 0 ≡ 4 * i = omega arith in rw z (omega (arith, h (4 * i), h (4 * i + 1), h (4 * i + 2), h (4 * i + 3)))
+    go i (suc zero) l = omega (arith, h (4 * i), h (4 * i + 1), h (4 * i + 2), h (4 * i + 3))
+    go i (suc (suc zero)) l = omega (arith, h (4 * i), h (4 * i + 1), h (4 * i + 2), h (4 * i + 3))
+    go i (suc (suc (suc zero))) l = omega (arith, h (4 * i), h (4 * i + 1), h (4 * i + 2), h (4 * i + 3))
+    go i (suc (suc (suc (suc j)))) l = absurd (omega arith)
 
 -- ---- parity by a mask
 

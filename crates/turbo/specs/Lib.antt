@@ -2,5 +2,6 @@
 pub mod Pairs
 pub mod Encoder
 pub mod Interleave
+pub mod Bytes
 pub mod Puncture
 pub mod Parity

@@ -1,7 +1,7 @@
 -- The parity bits of a block that are kept, in order. Assumes nothing.
 use mathlib.Core.Path.{_≡_}
 use mathlib.Core.List.{List}
-use Prim.Native.Nat.{ℕ, zero, suc, _/_, _%_, _≤_, _<_}
+use Prim.Native.Nat.{ℕ, zero, suc, _+_, _*_, _/_, _%_, _≤_, _<_}
 use lib.ListN.{length, getD}
 use Rattle.bits.specs.Bits.{bitOf}
 use Rattle.card.specs.Modes.{blockBytes}
@@ -20,12 +20,20 @@ inputOf kind d (suc e) t = interleaved kind (pairAt d) t
 unfoldable pub keptBit : ℕ → ℕ → ℕ → (ℕ → ℕ) → ℕ → ℕ
 keptBit kind rate taps d i = parityAt kind taps (inputOf kind d (i % 2)) (keptTime kind rate (i / 2))
 
--- what both passes go over: a block's bytes, and the pairs that encoder 2 reads of them
+-- the parity bits of both encoders in turn: p(0), q(0), p(1), q(1) and so on
+unfoldable pub bothBits : ℕ → ℕ → (ℕ → ℕ) → ℕ → ℕ
+bothBits kind taps d i = parityAt kind taps (inputOf kind d (i % 2)) (i / 2)
+
+-- the kept ones of such bits
+unfoldable pub punctured : ℕ → ℕ → (ℕ → ℕ) → ℕ → ℕ
+punctured kind rate b i = b (2 * keptTime kind rate (i / 2) + i % 2)
+
+-- what both passes go over: a block's bytes, and bytes of the pairs that encoder 2 reads of them
 pub record Inputs (kind : ℕ) (bytes second : List ℕ) : Type 0 where
   pub defined : kind < 5
   pub whole : length bytes ≡ blockBytes kind
-  pub room : pairCount kind ≤ length second
-  pub held : (t : ℕ) → t < pairCount kind → getD second t 0 ≡ inputOf kind (bitOf bytes) 1 t
+  pub room : blockBytes kind ≤ length second
+  pub held : (t : ℕ) → t < pairCount kind → pairAt (bitOf second) t ≡ inputOf kind (bitOf bytes) 1 t
 
 -- the states are those in which pass two starts
 pub record Started (kind taps : ℕ) (bytes : List ℕ) (s : States) : Type 0 where

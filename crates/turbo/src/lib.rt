@@ -4,18 +4,20 @@
 // Internal: nothing here is a public entry. A function with a `requires` is called only where its caller has shown it.
 ghost use mathlib.Core.Path.{_≡_};
 ghost use mathlib.Core.Bool.{cond, not};
-ghost use Prim.Native.Nat.{_+_, _-_, _*_, _%_, _<_, _≤_};
+ghost use Prim.Native.Nat.{_+_, _-_, _*_, _/_, _%_, _^_, _<_, _≤_};
+ghost use lib.Bits.{bitXor};
 ghost use lib.Dec.{eqb};
 ghost use lib.ListN.{length, getD};
-ghost use Rattle.bits.specs.Bits.{bitOf};
-ghost use Rattle.bits.specs.Lists.{written};
+ghost use Rattle.bits.specs.Bits.{bitOf, byteOf};
+ghost use Rattle.bits.specs.Lists.{tabulate, written};
 ghost use Rattle.bits.specs.Sums.{count};
 ghost use Rattle.card.specs.Modes.{blockBytes};
 ghost use Rattle.turbo.specs.Pairs.{pairCount, pairAt};
 ghost use Rattle.turbo.specs.Encoder.{next, parity, startOf};
+ghost use Rattle.turbo.specs.Bytes.{pairIn, fourFrom, PairsBelow, byteWord, Doubling, ByBytes, ByStates};
 ghost use Rattle.turbo.specs.Interleave.{Interleaving, exchangedAt, interleavedPairs};
 ghost use Rattle.turbo.specs.Puncture.{kept, keptCount};
-ghost use Rattle.turbo.specs.Parity.{inputOf, keptBit, Inputs, Started};
+ghost use Rattle.turbo.specs.Parity.{inputOf, keptBit, bothBits, punctured, Inputs, Started};
 
 // The tables S of all kinds, one after the other, and where each starts and ends.
 const STARTS: [u16; 133] = [
@@ -204,6 +206,106 @@ fn parity_bit(taps: u16, state: u8, pair: u8) -> u8
     (u8::count_ones(word & mask) % 2) as u8
 }
 
+// Pair j of a byte.
+fn pair_in(byte: u8, j: usize) -> u8
+    requires { ⌜ j < 4 ⌝ }
+    ensures { λ r. ⌜ r ≡ pairIn byte j ⌝ }
+{
+    (byte >> (6 - 2 * j)) % 4
+}
+
+// What a byte does to an encoder: its four parity bits, two places each, and eight times the state after it.
+fn byte_word(taps: u16, state: u8, byte: u8) -> u16
+    requires { ⌜ state < 8 ⌝ }
+    ensures { λ r. ⌜ r ≡ byteWord taps state byte ⌝ }
+{
+    let mut s = state;
+    let mut parities: u16 = 0;
+    let mut j: usize = 0;
+    while j < 4 {
+        let u = pair_in(byte, j);
+        parities = parities * 4 + parity_bit(taps, s, u) as u16;
+        s = step(taps, s, u);
+        j += 1;
+    }
+    parities * 256 + s as u16 * 8
+}
+
+// As many entries of the table again: an encoder is linear, so a byte does what its highest bit does and what the rest does.
+fn double(taps: u16, half: usize, table: &mut [u16])
+    requires { ⌜ Doubling taps half (now table) ⌝ }
+    ensures { λ _. ⌜ now (table .exit) ≡ written (2 * half) (byteWord taps 0) (now (table .entry)) ⌝ }
+{
+    let top = byte_word(taps, 0, half as u8);
+    let mut i: usize = 0;
+    while i < half {
+        table[half + i] = table[i] ^ top;
+        i += 1;
+    }
+}
+
+// What each byte does to an encoder in the state zero.
+fn by_bytes(taps: u16, table: &mut [u16])
+    requires { ⌜ length (now table) ≡ 256 ⌝ }
+    ensures { λ _. ⌜ now (table .exit) ≡ tabulate 256 (byteWord taps 0) ⌝ }
+{
+    table[0] = 0;
+    let mut half: usize = 1;
+    while half < 256 {
+        double(taps, half, table);
+        half = 2 * half;
+    }
+}
+
+// What the byte zero does to an encoder, eight bits for each of its states: eight times the state after it, and the parity bits.
+pub struct Rows {
+    pub taps: u16,
+    pub states: u64,
+    pub parities: u64,
+}
+
+// The rows of an encoder.
+fn by_states(taps: u16) -> Rows
+    ensures { λ r. ⌜ (r .taps ≡ taps) × ByStates r ⌝ }
+{
+    let mut states: u64 = 0;
+    let mut parities: u64 = 0;
+    let mut s: u8 = 8;
+    while s > 0 {
+        s -= 1;
+        let word = byte_word(taps, s, 0);
+        states = states * 256 + (word % 256) as u64;
+        parities = parities * 256 + (word / 256) as u64;
+    }
+    Rows {
+        taps,
+        states,
+        parities,
+    }
+}
+
+// Eight times the state after a byte, from eight times the state before it and what the byte does.
+fn moved(states: u64, state: u64, word: u16) -> u64
+    requires { ⌜ state < 64 ⌝ }
+    ensures { λ r. ⌜ r ≡ bitXor (states / 2 ^ state) word / 8 % 8 * 8 ⌝ }
+{
+    ((states >> state) ^ word as u64) / 8 % 8 * 8
+}
+
+// The parity bits that a byte gives, from eight times the state before it and what the byte does.
+fn given(parities: u64, state: u64, word: u16) -> u8
+    requires { ⌜ state < 64 ⌝ }
+    ensures { λ r. ⌜ r ≡ bitXor (parities / 2 ^ state % 256) (word / 256) ⌝ }
+{
+    ((parities >> state) % 256) as u8 ^ (word / 256) as u8
+}
+
+fn wide(x: u8) -> usize
+    ensures { λ r. ⌜ r ≡ x ⌝ }
+{
+    x as usize
+}
+
 // Where pass two starts when pass one ended at sn.
 fn start_of(kind: usize, sn: u8) -> u8
     requires { ⌜ (kind < 5) × (sn < 8) ⌝ }
@@ -279,6 +381,32 @@ fn interleave(starts: &[u16], bytes: &[u8], out: &mut [u8])
     }
 }
 
+// Four pairs in a byte.
+fn four(a: u8, b: u8, c: u8, d: u8) -> u8
+    requires { ⌜ (a < 4) × (b < 4) × (c < 4) × (d < 4) ⌝ }
+    ensures { λ r. ⌜ r ≡ a * 64 + b * 16 + c * 4 + d ⌝ }
+{
+    a * 64 + b * 16 + c * 4 + d
+}
+
+// Some pairs, four to a byte.
+fn pack_pairs(pairs: &[u8], n: usize, out: &mut [u8])
+    requires { ⌜ (4 * n ≤ length (now pairs)) × (n ≤ length (now out)) ⌝ }
+    requires { ⌜ PairsBelow (4 * n) (now pairs) ⌝ }
+    ensures { λ _. ⌜ now (out .exit) ≡ written n (fourFrom (λ t. getD (now (pairs .entry)) t 0)) (now (out .entry)) ⌝ }
+{
+    let mut i: usize = 0;
+    while i < n {
+        out[i] = four(
+            pairs[4 * i],
+            pairs[4 * i + 1],
+            pairs[4 * i + 2],
+            pairs[4 * i + 3],
+        );
+        i += 1;
+    }
+}
+
 // The pairs that encoder 2 reads, at the start of `out`.
 fn second_input(kind: usize, bytes: &[u8], out: &mut [u8])
     requires { ⌜ (kind < 5) × (length (now bytes) ≡ blockBytes kind) × (pairCount kind ≤ length (now out)) ⌝ }
@@ -297,57 +425,94 @@ pub struct States {
 }
 
 // Pass one of both encoders: where pass two starts. `second` holds the pairs that encoder 2 reads.
-fn ring_starts(kind: usize, taps: u16, bytes: &[u8], second: &[u8]) -> States
+fn ring_starts(kind: usize, rows: Rows, table: &[u16; 256], bytes: &[u8], second: &[u8]) -> States
     requires { ⌜ Inputs kind (now bytes) (now second) ⌝ }
-    ensures { λ r. ⌜ Started kind taps (now (bytes .entry)) r ⌝ }
+    requires { ⌜ ByStates rows × ByBytes (rows .taps) (now table) ⌝ }
+    ensures { λ r. ⌜ Started kind (rows .taps) (now (bytes .entry)) r ⌝ }
 {
-    let l = pairs(kind);
-    let mut a: u8 = 0;
-    let mut b: u8 = 0;
-    let mut t: usize = 0;
-    while t < l {
-        a = step(taps, a, pair_at(bytes, t));
-        b = step(taps, b, second[t]);
-        t += 1;
+    let states = rows.states;
+    let mut a: u64 = 0;
+    let mut b: u64 = 0;
+    let mut i: usize = 0;
+    while i < bytes.len() {
+        a = moved(states, a, table[wide(bytes[i])]);
+        b = moved(states, b, table[wide(second[i])]);
+        i += 1;
     }
     States {
-        first: start_of(kind, a),
-        second: start_of(kind, b),
+        first: start_of(kind, (a / 8) as u8),
+        second: start_of(kind, (b / 8) as u8),
     }
 }
 
-// Pass two of both encoders: the kept parity bits, at the start of `out`.
-fn write_parity(
+// Pass two of both encoders: the parity bits of both in turn, eight to a byte, at the start of `out`.
+fn pack_parity(
     kind: usize,
-    rate: usize,
-    taps: u16,
+    rows: Rows,
+    table: &[u16; 256],
     from: States,
     bytes: &[u8],
     second: &[u8],
     out: &mut [u8],
 )
     requires { ⌜ Inputs kind (now bytes) (now second) ⌝ }
-    requires { ⌜ Started kind taps (now bytes) from ⌝ }
-    requires { ⌜ (rate < 2) × (keptCount kind rate ≤ length (now out)) ⌝ }
-    ensures { λ _. ⌜ now (out .exit) ≡ written (keptCount kind rate) (keptBit kind rate taps (bitOf (now (bytes .entry)))) (now (out .entry)) ⌝ }
+    requires { ⌜ ByStates rows × ByBytes (rows .taps) (now table) ⌝ }
+    requires { ⌜ Started kind (rows .taps) (now bytes) from × (blockBytes kind ≤ length (now out)) ⌝ }
+    ensures { λ _. ⌜ now (out .exit) ≡ written (blockBytes kind) (byteOf (bothBits kind (rows .taps) (bitOf (now (bytes .entry))))) (now (out .entry)) ⌝ }
+{
+    let states = rows.states;
+    let parities = rows.parities;
+    let mut a = from.first as u64 * 8;
+    let mut b = from.second as u64 * 8;
+    let mut i: usize = 0;
+    while i < bytes.len() {
+        let p = table[wide(bytes[i])];
+        let q = table[wide(second[i])];
+        out[i] = 2 * given(parities, a, p) + given(parities, b, q);
+        a = moved(states, a, p);
+        b = moved(states, b, q);
+        i += 1;
+    }
+}
+
+// The kept of the parity bits of both encoders, at the start of `out`.
+fn puncture(kind: usize, rate: usize, packed: &[u8], out: &mut [u8])
+    requires { ⌜ (kind < 5) × (rate < 2) × (blockBytes kind ≤ length (now packed)) × (keptCount kind rate ≤ length (now out)) ⌝ }
+    ensures { λ _. ⌜ now (out .exit) ≡ written (keptCount kind rate) (punctured kind rate (bitOf (now (packed .entry)))) (now (out .entry)) ⌝ }
 {
     let l = pairs(kind);
-    let mut a = from.first;
-    let mut b = from.second;
     let mut n: usize = 0;
     let mut t: usize = 0;
     while t < l {
-        let u = pair_at(bytes, t);
-        let v = second[t];
         if is_kept(rate, t) {
-            out[n] = parity_bit(taps, a, u);
-            out[n + 1] = parity_bit(taps, b, v);
+            out[n] = bits::bit_of(packed, 2 * t);
+            out[n + 1] = bits::bit_of(packed, 2 * t + 1);
             n += 2;
         }
-        a = step(taps, a, u);
-        b = step(taps, b, v);
         t += 1;
     }
+}
+
+// The pairs that encoder 2 reads, one by one at the start of `list`, and four to a byte at the start of `out`.
+fn second_bytes(kind: usize, bytes: &[u8], list: &mut [u8], out: &mut [u8])
+    requires { ⌜ (kind < 5) × (length (now bytes) ≡ blockBytes kind) × (pairCount kind ≤ length (now list)) × (blockBytes kind ≤ length (now out)) ⌝ }
+    ensures { λ _. ⌜ now (list .exit) ≡ written (pairCount kind) (inputOf kind (bitOf (now (bytes .entry))) 1) (now (list .entry)) ⌝ }
+    ensures { λ _. ⌜ now (out .exit) ≡ written (blockBytes kind) (fourFrom (inputOf kind (bitOf (now (bytes .entry))) 1)) (now (out .entry)) ⌝ }
+{
+    second_input(kind, bytes, list);
+    pack_pairs(list, bytes.len(), out);
+}
+
+// The parity bits of both encoders in turn, eight to a byte, at the start of `out`. `second` holds the pairs that encoder 2 reads.
+fn parity_bytes(kind: usize, taps: u16, bytes: &[u8], second: &[u8], out: &mut [u8])
+    requires { ⌜ Inputs kind (now bytes) (now second) × (blockBytes kind ≤ length (now out)) ⌝ }
+    ensures { λ _. ⌜ now (out .exit) ≡ written (blockBytes kind) (byteOf (bothBits kind taps (bitOf (now (bytes .entry))))) (now (out .entry)) ⌝ }
+{
+    let mut table = [0u16; 256];
+    by_bytes(taps, &mut table);
+    let rows = by_states(taps);
+    let from = ring_starts(kind, rows, &table, bytes, second);
+    pack_parity(kind, rows, &table, from, bytes, second, out);
 }
 
 // The kept parity bits of a block, at the start of `out`. Of the taps the low eleven bits count.
@@ -355,17 +520,33 @@ pub fn encode(kind: usize, rate: usize, taps: u16, bytes: &[u8], out: &mut [u8])
     requires { ⌜ (kind < 5) × (rate < 2) × (length (now bytes) ≡ blockBytes kind) × (keptCount kind rate ≤ length (now out)) ⌝ }
     ensures { λ _. ⌜ now (out .exit) ≡ written (keptCount kind rate) (keptBit kind rate taps (bitOf (now (bytes .entry)))) (now (out .entry)) ⌝ }
 {
-    let mut second = [0u8; 2080];
-    second_input(kind, bytes, &mut second);
-    let from = ring_starts(kind, taps, bytes, &second);
-    write_parity(kind, rate, taps, from, bytes, &second, out);
+    let mut list = [0u8; 2080];
+    let mut second = [0u8; 520];
+    let mut packed = [0u8; 520];
+    second_bytes(kind, bytes, &mut list, &mut second);
+    parity_bytes(kind, taps, bytes, &second, &mut packed);
+    puncture(kind, rate, &packed, out);
 }
 
 // 1 where two elements differ, and 0 where they are the same.
-fn differ(x: u8, y: u8) -> usize
+fn differ(x: u8, y: u8) -> u8
     ensures { λ r. ⌜ r ≡ cond (not (eqb x y)) 1 0 ⌝ }
 {
     if x == y { 0 } else { 1 }
+}
+
+// How many elements of two short lists of one length differ: few enough for a byte, which counts sixteen at a time.
+fn few_disagreements(a: &[u8], b: &[u8]) -> u8
+    requires { ⌜ (length (now a) ≡ length (now b)) × (length (now a) < 256) ⌝ }
+    ensures { λ r. ⌜ r ≡ count (length (now (a .entry))) (λ i. not (eqb (getD (now (a .entry)) i 0) (getD (now (b .entry)) i 0))) ⌝ }
+{
+    let mut n: u8 = 0;
+    let mut i: usize = 0;
+    while i < a.len() {
+        n += differ(a[i], b[i]);
+        i += 1;
+    }
+    n
 }
 
 // How many elements of two lists of one length differ.
@@ -375,9 +556,10 @@ pub fn disagreements(a: &[u8], b: &[u8]) -> usize
 {
     let mut n: usize = 0;
     let mut i: usize = 0;
-    while i < a.len() {
-        n += differ(a[i], b[i]);
-        i += 1;
+    while 128 <= a.len() - i {
+        let end = i + 128;
+        n += wide(few_disagreements(&a[i..end], &b[i..end]));
+        i = end;
     }
-    n
+    n + wide(few_disagreements(&a[i..], &b[i..]))
 }

@@ -1,20 +1,14 @@
 -- `turbo::disagreements` meets its contract. The invariant: n is the count among the first i elements. Assumes nothing.
 use mathlib.Core.Path.{_≡_, refl, sym, ap, ap₂, _∙_}
-use mathlib.Core.Bool.{Bool, not}
-use mathlib.Core.List.{List}
 use Prim.Native.Nat.{ℕ, _+_, _-_, _≤_}
 use native.Mathlib.Omega.{arith}
-use lib.Dec.{eqb}
-use lib.ListN.{length, getD}
+use lib.ListN.{length}
 use borrow.Author.Needs.{needs}
 use Rattle.bits.specs.Sums.{sum, count}
-use Rattle.bits.proofs.SumLaws.{count-next, count-le, one-le}
+use Rattle.bits.proofs.SumLaws.{count-le}
+use Rattle.turbo.proofs.DifferLaws.{unlike, stretch-asked, stretch-next}
 use Rattle.turbo.proofs.disagreements.Statement.{statement}
 use Rattle.turbo.proofs.disagreements.Tie as tie
-
--- the test that is counted
-abbrev unlike : List ℕ → List ℕ → ℕ → Bool
-unlike a b k = not (eqb (getD a k 0) (getD b k 0))
 
 abbrev Inv-loop : tie.InvT-loop
 Inv-loop a b n₀ i₀ n i = (i ≤ length a) × (n ≡ count i (unlike a b))
@@ -26,38 +20,109 @@ loop-holds : tie.Need-loop-holds Inv-loop μ-loop
 unfolding count sum
 loop-holds c = (search needs, refl)
 
-shared-slice-read-differ : tie.Need-shared-slice-read-differ Inv-loop μ-loop
-shared-slice-read-differ c = search needs
+sub-loop : tie.Need-sub-loop Inv-loop μ-loop
+sub-loop c = search needs
 
-shared-slice-read-differ-2 : tie.Need-shared-slice-read-differ-2 Inv-loop μ-loop
-shared-slice-read-differ-2 c = omega arith
+add-end : tie.Need-add-end Inv-loop μ-loop
+add-end c = search needs
 
-differ-requires : tie.Need-differ-requires Inv-loop μ-loop
-differ-requires c κs = search needs
+sub-few-disagreements : tie.Need-sub-few-disagreements Inv-loop μ-loop
+sub-few-disagreements c = search needs
+
+part-few-disagreements-start : tie.Need-part-few-disagreements-start Inv-loop μ-loop
+part-few-disagreements-start c = search needs
+
+part-few-disagreements-end : tie.Need-part-few-disagreements-end Inv-loop μ-loop
+part-few-disagreements-end c = search needs
+
+sub-few-disagreements-2 : tie.Need-sub-few-disagreements-2 Inv-loop μ-loop
+sub-few-disagreements-2 c = search needs
+
+part-few-disagreements-start-2 : tie.Need-part-few-disagreements-start-2 Inv-loop μ-loop
+part-few-disagreements-start-2 c = search needs
+
+part-few-disagreements-end-2 : tie.Need-part-few-disagreements-end-2 Inv-loop μ-loop
+part-few-disagreements-end-2 c = search needs
+
+-- the function's entry, and the count after a turn
+abbrev entry : tie.After-wide Inv-loop μ-loop → tie.Start Inv-loop μ-loop
+entry c = c .before .before .before .before .before .before .before .before
+
+turn : (c : tie.After-wide Inv-loop μ-loop)
+    → c .before .before .before .before .before .loop .n + c .wide .result ≡ count (c .before .before .before .before .before .loop .i + 128) (unlike (entry c .args .a .now) (entry c .args .b .now))
+turn c =
+    let z = entry c in
+    let l = c .before .before .before .before .before .loop in
+    let q : l .i + (l .i + 128 - l .i) ≡ l .i + 128 = omega arith in
+    stretch-next (z .args .a .now) (z .args .b .now) (l .i) (l .i + 128 - l .i) (l .i + 128 - l .i) (omega arith) (z .pre) refl _ _ (l .inv .1)
+    (c .wide .ensures ∙ c .before .few-disagreements .ensures)
+    ∙ ap (λ (m : ℕ). count m (unlike (z .args .a .now) (z .args .b .now))) q
+
+few-disagreements-requires : tie.Need-few-disagreements-requires Inv-loop μ-loop
+few-disagreements-requires c κs =
+    let z = c .before .before .before .before .before .before in
+    let i : ℕ = c .before .before .before .loop .i in
+    stretch-asked (z .args .a .now) (z .args .b .now) i (i + 128 - i) (i + 128 - i) (omega arith) (z .pre) refl (omega arith)
+
+wide-requires : tie.Need-wide-requires Inv-loop μ-loop
+wide-requires c κs = search needs
 
 add-n : tie.Need-add-n Inv-loop μ-loop
 add-n c =
-    let a = c .before .before .before .before .before .before .before .args in
-    let i : ℕ = c .before .before .before .before .loop .i in
-    omega (arith, count-le i (unlike (a .a .now) (a .b .now)), c .differ .ensures, one-le (unlike (a .a .now) (a .b .now) i))
-
-add-i : tie.Need-add-i Inv-loop μ-loop
-add-i c = search needs
+    omega (arith, turn c, count-le (c .before .before .before .before .before .loop .i + 128) (unlike (entry c .args .a .now) (entry c .args .b .now)))
 
 loop-less : tie.Need-loop-less Inv-loop μ-loop
 loop-less c = search needs
 
 loop-again : tie.Need-loop-again Inv-loop μ-loop
-loop-again c =
-    let a = c .before .before .before .before .before .before .before .args in
-    let l = c .before .before .before .before .loop in
-    (search needs, ap₂ _+_ (l .inv .1) (c .differ .ensures) ∙ sym (count-next (l .i) (unlike (a .a .now) (a .b .now))))
+loop-again c = (omega arith, turn c)
+
+sub-few-disagreements-3 : tie.Need-sub-few-disagreements-3 Inv-loop μ-loop
+sub-few-disagreements-3 c = search needs
+
+part-few-disagreements-start-3 : tie.Need-part-few-disagreements-start-3 Inv-loop μ-loop
+part-few-disagreements-start-3 c = search needs
+
+part-few-disagreements-end-3 : tie.Need-part-few-disagreements-end-3 Inv-loop μ-loop
+part-few-disagreements-end-3 c = search needs
+
+sub-few-disagreements-4 : tie.Need-sub-few-disagreements-4 Inv-loop μ-loop
+sub-few-disagreements-4 c = search needs
+
+part-few-disagreements-start-4 : tie.Need-part-few-disagreements-start-4 Inv-loop μ-loop
+part-few-disagreements-start-4 c = search needs
+
+part-few-disagreements-end-4 : tie.Need-part-few-disagreements-end-4 Inv-loop μ-loop
+part-few-disagreements-end-4 c = search needs
+
+few-disagreements-requires-2 : tie.Need-few-disagreements-requires-2 Inv-loop μ-loop
+few-disagreements-requires-2 c κs =
+    let z = c .before .before .before .before .before .before in
+    let i : ℕ = c .before .before .before .loop .i in
+    stretch-asked (z .args .a .now) (z .args .b .now) i (length (z .args .a .now) - i) (length (z .args .b .now) - i) (omega arith) (z .pre) (omega arith) (omega arith)
+
+wide-requires-2 : tie.Need-wide-requires-2 Inv-loop μ-loop
+wide-requires-2 c κs = search needs
+
+-- and after the rest
+last : (c : tie.After-wide2 Inv-loop μ-loop)
+    → let z = c .before .before .before .before .before .before .before .before in
+    c .before .before .before .before .before .loop .n + c .wide2 .result ≡ count (length (z .args .a .now)) (unlike (z .args .a .now) (z .args .b .now))
+last c =
+    let z = c .before .before .before .before .before .before .before .before in
+    let l = c .before .before .before .before .before .loop in
+    let q : l .i + (length (z .args .a .now) - l .i) ≡ length (z .args .a .now) = omega arith in
+    stretch-next (z .args .a .now) (z .args .b .now) (l .i) (length (z .args .a .now) - l .i) (length (z .args .b .now) - l .i) (omega arith) (z .pre) (omega arith)
+    _ _ (l .inv .1) (c .wide2 .ensures ∙ c .before .few-disagreements2 .ensures)
+    ∙ ap (λ (m : ℕ). count m (unlike (z .args .a .now) (z .args .b .now))) q
+
+add-result : tie.Need-add-result Inv-loop μ-loop
+add-result c =
+    let z = c .before .before .before .before .before .before .before .before in
+    omega (arith, last c, count-le (length (z .args .a .now)) (unlike (z .args .a .now) (z .args .b .now)))
 
 returns : tie.Need-returns Inv-loop μ-loop
-returns c =
-    let a = c .before .before .before .before .args in
-    let q : c .before .loop .i ≡ length (a .a .now) = omega arith in
-    c .before .loop .inv .1 ∙ ap (λ (m : ℕ). count m (unlike (a .a .now) (a .b .now))) q
+returns c = last c
 
 pub disagreements-spec : {M : Type 1} → statement M
 disagreements-spec =
@@ -66,11 +131,26 @@ disagreements-spec =
     Inv-loop
     μ-loop
     loop-holds
-    shared-slice-read-differ
-    shared-slice-read-differ-2
-    differ-requires
+    sub-loop
+    add-end
+    sub-few-disagreements
+    part-few-disagreements-start
+    part-few-disagreements-end
+    sub-few-disagreements-2
+    part-few-disagreements-start-2
+    part-few-disagreements-end-2
+    few-disagreements-requires
+    wide-requires
     add-n
-    add-i
     loop-less
     loop-again
+    sub-few-disagreements-3
+    part-few-disagreements-start-3
+    part-few-disagreements-end-3
+    sub-few-disagreements-4
+    part-few-disagreements-start-4
+    part-few-disagreements-end-4
+    few-disagreements-requires-2
+    wide-requires-2
+    add-result
     returns)
