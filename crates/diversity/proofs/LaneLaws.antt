@@ -7,9 +7,9 @@ use native.Mathlib.Nat.{zero-mul}
 use native.Mathlib.Omega.{arith}
 use lib.Arith.{digits-div, digits-mod}
 use lib.Dec.{T, eqb, eqb→eq}
-use lib.ListN.{getD, length, set}
-use Rattle.bits.specs.Lists.{tabulate, written}
-use Rattle.bits.proofs.ListLaws.{getD-tabulate, tabulate-ext, written-two, written-all}
+use lib.ListN.{getD}
+use Rattle.bits.specs.Lists.{tabulate}
+use Rattle.bits.proofs.ListLaws.{getD-tabulate, tabulate-ext}
 use Rattle.diversity.specs.Votes.{copies, decided}
 use Rattle.diversity.specs.Damage.{Damage, altered, lost}
 use Rattle.diversity.specs.Lanes.{laneBit, rides}
@@ -98,17 +98,6 @@ symbol-I C o c h = ap (laneBit C (o ∷ [])) (symbol-start C c) ∙ lane-I C (o 
 
 pub symbol-Q : (C o c : ℕ) → c < C → laneBit C (o ∷ []) (2 * c + 1) ≡ (c + o + 128) % 256
 symbol-Q C o c h = ap (λ (n : ℕ). laneBit C (o ∷ []) (n + 1)) (symbol-start C c) ∙ lane-Q C (o ∷ []) 0 c h
-
--- a place's turn: its two items are written
-pub place-written : (C o c i q : ℕ) (coded out now : List ℕ) → c < C → 2 * c + 1 < length out
-    → now ≡ written (2 * c) (λ n. getD coded (laneBit C (o ∷ []) n) 0) out
-    → i ≡ (c + o) % 256 → q ≡ (c + o + 128) % 256
-    → set (set now (2 * c) (getD coded i 0)) (2 * c + 1) (getD coded q 0) ≡ written (2 * (c + 1)) (λ n. getD coded (laneBit C (o ∷ []) n) 0) out
-place-written C o c i q coded out now h l e f g =
-    written-all _ _ _ _ _
-    (written-two (2 * c) _ _ _ out now e l
-    (ap (λ (b : ℕ). getD coded b 0) (f ∙ sym (symbol-I C o c h))) (ap (λ (b : ℕ). getD coded b 0) (g ∙ sym (symbol-Q C o c h))))
-    (omega arith)
 
 -- the two lanes of a carrier carry different bits
 pub lanes-differ : (C : ℕ) (os : List ℕ) (k : ℕ) → laneBit C os (2 * k) ≡ laneBit C os (2 * k + 1) → ⊥

@@ -2,6 +2,7 @@
 pub mod VoteLaws
 pub mod DamageLaws
 pub mod LaneLaws
+pub mod RingLaws
 pub mod CopyLaws
 pub mod BandLaws
 pub mod UnitLaws

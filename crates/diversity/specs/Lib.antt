@@ -4,4 +4,5 @@ pub mod Damage
 pub mod Bands
 pub mod Units
 pub mod Lanes
+pub mod Ring
 pub mod Counters

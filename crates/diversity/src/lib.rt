@@ -14,6 +14,7 @@ ghost use Rattle.diversity.specs.Bands.{bandCount, firstSubCarrier, last
 ghost use Rattle.diversity.specs.Units.{placeReport, subCarrierReport, placeOf, subCarrierOf};
 ghost use Rattle.diversity.specs.Votes.{majority as majorityOf, decided};
 ghost use Rattle.diversity.specs.Lanes.{laneBit, rides, laneOf};
+ghost use Rattle.diversity.specs.Ring.{ringBit};
 ghost use Rattle.diversity.specs.Counters.{middle, counted, Room};
 
 // The number of a sub-carrier.
@@ -134,29 +135,81 @@ fn lane_q(place: usize, offset: u8) -> u8
     std::num::wrapping_add_u8(lane_i(place, offset), 128)
 }
 
-// The items of one symbol.
-fn copy_symbol(carriers: usize, offset: u8, coded: &[u8], out: &mut [u8])
-    requires { ⌜ (length (now coded) ≡ 256) × (2 * carriers ≤ length (now out)) ⌝ }
-    ensures { λ _. ⌜ now (out .exit) ≡ written (2 * carriers) (λ n. getD (now (coded .entry)) (laneBit carriers (offset ∷ []) n) 0) (now (out .entry)) ⌝ }
+// The coded bits on half a turn of the ring, from a place on at which neither lane wraps within it.
+fn half_turn(place: usize, coded: &[u8], ring: &mut [u8])
+    requires { ⌜ (place % 128 ≡ 0) × (length (now coded) ≡ 256) × (256 ≤ length (now ring)) ⌝ }
+    ensures { λ _. ⌜ now (ring .exit) ≡ written 256 (λ n. getD (now (coded .entry)) (ringBit (2 * place + n)) 0) (now (ring .entry)) ⌝ }
 {
-    let mut place: usize = 0;
-    while place < carriers {
-        out[2 * place] = coded[lane_i(place, offset) as usize];
-        out[2 * place + 1] = coded[lane_q(place, offset) as usize];
-        place += 1;
+    let i = lane_i(place, 0) as usize;
+    let q = lane_q(place, 0) as usize;
+    let mut c: usize = 0;
+    while c < 128 {
+        ring[2 * c] = coded[i + c];
+        ring[2 * c + 1] = coded[q + c];
+        c += 1;
     }
+}
+
+// The first turn of the ring again, up to its end.
+fn repeat_turn(ring: &mut [u8])
+    requires { ⌜ 512 ≤ length (now ring) ⌝ }
+    ensures { λ _. ⌜ now (ring .exit) ≡ tabulate (length (now (ring .entry))) (λ q. getD (now (ring .entry)) (q % 512) 0) ⌝ }
+{
+    let mut q: usize = 512;
+    while q < ring.len() {
+        ring[q] = ring[q - 512];
+        q += 1;
+    }
+}
+
+// Room for the ring: a run of 512 carriers from any offset on is within it.
+fn no_ring() -> [u8; 1536]
+    ensures { λ r. ⌜ r ≡ replicate 1536 0 ⌝ }
+{
+    [0u8; 1536]
+}
+
+// At each place of the ring the coded bit that it carries.
+fn fill_ring(coded: &[u8], ring: &mut [u8])
+    requires { ⌜ (length (now coded) ≡ 256) × (512 ≤ length (now ring)) ⌝ }
+    ensures { λ _. ⌜ now (ring .exit) ≡ tabulate (length (now (ring .entry))) (λ q. getD (now (coded .entry)) (ringBit q) 0) ⌝ }
+{
+    half_turn(0, coded, ring);
+    half_turn(128, coded, &mut ring[256..]);
+    repeat_turn(ring);
+}
+
+// The ring of the coded bits.
+fn ring_of(coded: &[u8]) -> [u8; 1536]
+    requires { ⌜ length (now coded) ≡ 256 ⌝ }
+    ensures { λ r. ⌜ r ≡ tabulate 1536 (λ q. getD (now (coded .entry)) (ringBit q) 0) ⌝ }
+{
+    let mut ring = no_ring();
+    fill_ring(coded, &mut ring);
+    ring
+}
+
+// The items of one symbol: a run of the ring, whose first bit is that of place 0 on lane I.
+fn copy_symbol(run: usize, offset: u8, ring: &[u8], out: &mut [u8])
+    requires { ⌜ (run ≤ length (now out)) × (2 * offset + run ≤ length (now ring)) ⌝ }
+    ensures { λ _. ⌜ now (out .exit) ≡ written run (λ n. getD (now (ring .entry)) (2 * offset + n) 0) (now (out .entry)) ⌝ }
+{
+    let at = 2 * (lane_i(0, offset) as usize);
+    let end = at + run;
+    bits::put(&ring[at..end], out);
 }
 
 // The items of all symbols, one after the other.
 fn copy_symbols(carriers: usize, offsets: &[u8], coded: &[u8], out: &mut [u8])
-    requires { ⌜ (length (now coded) ≡ 256) × (carriers < 65536) × (2 * (length (now offsets) * carriers) ≤ length (now out)) ⌝ }
+    requires { ⌜ (length (now coded) ≡ 256) × (carriers ≤ 512) × (2 * (length (now offsets) * carriers) ≤ length (now out)) ⌝ }
     ensures { λ _. ⌜ now (out .exit) ≡ written (2 * (length (now (offsets .entry)) * carriers)) (λ n. getD (now (coded .entry)) (laneBit carriers (now (offsets .entry)) n) 0) (now (out .entry)) ⌝ }
 {
+    let ring = ring_of(coded);
     let run = 2 * carriers;
     let mut n: usize = 0;
     let mut s: usize = 0;
     while s < offsets.len() {
-        copy_symbol(carriers, offsets[s], coded, &mut out[n..]);
+        copy_symbol(run, offsets[s], &ring, &mut out[n..]);
         n += run;
         s += 1;
     }
