@@ -1,15 +1,17 @@
 -- The layouts of the table are sound and small. Assumes nothing.
 use mathlib.Core.Path.{_≡_, ap}
-use Prim.Native.Nat.{ℕ, zero, _+_, _*_, _/_, _<_}
+use Prim.Native.Nat.{ℕ, zero, _+_, _*_, _/_, _<_, _≤_}
 use native.Mathlib.Omega.{arith}
-use lib.Dec.{ltb, ltb→lt, leb, leb→le}
+use lib.Dec.{T, ltb, ltb→lt, leb, leb→le}
 use lib.ListN.{getD}
 use borrow.Author.Tests.{eqb-true}
+use Rattle.bits.specs.Ranges.{allBelow}
+use Rattle.bits.proofs.NumberLaws.{lt-cases}
 use Rattle.bits.proofs.RangeLaws.{at-each, agree₂, under, under₂}
 use Rattle.card.specs.Modes.{blockBytes}
 use Rattle.interleaver.specs.declared.Layout.{Layout}
 use Rattle.interleaver.specs.Source.{codedOf, codedBits}
-use Rattle.interleaver.specs.Layouts.{Defined, Sound, Small, offsets, steps, groups, leads, layoutOf}
+use Rattle.interleaver.specs.Layouts.{Defined, Sound, Small, Near, offsets, steps, groups, leads, layoutOf}
 
 module _ (kind rate : ℕ) (D : Defined kind rate) where
   -- its row of the table
@@ -41,6 +43,20 @@ module _ (kind rate : ℕ) (D : Defined kind rate) where
         offset-lt = under 6 65536 (λ m. getD offsets m 0) tt (kind + rate) row-lt;
         group-lt = under 2 65536 (λ r. getD groups r 0) tt rate (D .rate-lt);
       }
+
+pub near-of : (kind rate : ℕ) → Defined kind rate → Near (layoutOf kind rate)
+near-of kind rate D =
+    record {
+      step-le = at-most (λ k r. getD steps (k + r) 0) tt tt;
+      offset-le = at-most (λ k r. getD offsets (k + r) 0) tt tt;
+    }
+  where
+    at-most : (f : ℕ → ℕ → ℕ) → T (allBelow 5 (λ k. leb (f k 0) (blockBytes k * 2 / 1))) → T (leb (f 4 1) 130)
+        → f kind rate ≤ blockBytes kind * 2 / getD groups rate 0
+    at-most f t u =
+        lt-cases rate 1
+        (λ h. let r : rate ≡ 0 = omega arith in rw r (leb→le (f kind 0) (blockBytes kind * 2 / 1) (at-each 5 (λ k. leb (f k 0) (blockBytes k * 2 / 1)) t kind (D .kind-lt))))
+        (λ h. let r : rate ≡ 1 = omega arith in let k = D .high-rate r in rw (r, k) (leb→le (f 4 1) 130 u))
 
 pub coded-is : (kind rate : ℕ) (L : Layout) → L ≡ layoutOf kind rate → codedOf L ≡ codedBits kind rate
 unfolding codedBits

@@ -1,5 +1,5 @@
 -- The passes take each row once, for every number of rows, every step of at least 1 and every offset; the walk without a restart does,
--- where the step has an inverse. The list of passes is the order of the formula that the code uses. Assumes nothing.
+-- where the step has an inverse. The list of passes is the order of a formula. Assumes nothing.
 use mathlib.Core.Path.{_≡_, refl, sym, ap, ap₂, _∙_}
 use mathlib.Core.Bool.{cond}
 use mathlib.Core.List.{List, _++_}
@@ -39,7 +39,7 @@ rowAt R step p = cond (ltb p (R % step * (R / step + 1))) (longRow R step p) (sh
 -- pass j by the formula: how many rows it takes, where the next pass starts, and its k-th row
 abbrev Passed : ℕ → ℕ → ℕ → Type 0
 Passed R s j =
-    (c : ℕ) × (passLength R s j ≡ c) × (passStart R s (suc j) ≡ passStart R s j + c)
+    (c : ℕ) × (passLength R s j ≡ c) × (R ≤ j + c * s) × (passStart R s (suc j) ≡ passStart R s j + c)
     × ((k : ℕ) → k < c → rowAt R s (passStart R s j + k) ≡ j + k * s)
 
 -- place p is the k-th of pass j
@@ -60,7 +60,7 @@ module _ (R s : ℕ) (pos : zero < s) where
   row-short p h = rw (le-ltb p (R % s * (R / s + 1)) h)
 
   -- a pass is as long as the number of its rows below R
-  length-is : (j c : ℕ) → c ≤ R → ((k : ℕ) → k < c → j + k * s < R) → R ≤ j + c * s → passLength R s j ≡ c
+  pub length-is : (j c : ℕ) → c ≤ R → ((k : ℕ) → k < c → j + k * s < R) → R ≤ j + c * s → passLength R s j ≡ c
   unfolding passLength
   length-is j c h below past =
       lt-cases c R
@@ -69,7 +69,7 @@ module _ (R s : ℕ) (pos : zero < s) where
       let e : R ≡ c = omega arith in
       lowest-none R (λ k. leb R (j + k * s)) (λ k b. lt-leb R (j + k * s) (below k (omega arith))) ∙ e)
 
-  pass-is : (j : ℕ) → j < s → Passed R s j
+  pub pass-is : (j : ℕ) → j < s → Passed R s j
   pass-is j hj = lt-cases j (R % s) long short
     where
       long : j < R % s → Passed R s j
@@ -78,6 +78,7 @@ module _ (R s : ℕ) (pos : zero < s) where
         length-is j (R / s + 1) (omega (arith, whole, le-mul-of-pos-right (R / s) pos))
             (λ k b. omega (arith, whole, mul-le-mul-right {m = k} {n = R / s} s (omega arith)))
             (omega (arith, whole, rest, add-mul (R / s) 1 s)),
+        omega (arith, whole, rest, add-mul (R / s) 1 s),
         omega (arith, suc-mul j (R / s)),
         λ k b.
             let e : passStart R s j + k ≡ j * (R / s + 1) + k = omega (arith, mul-add j (R / s) 1) in
@@ -92,6 +93,7 @@ module _ (R s : ℕ) (pos : zero < s) where
         length-is j (R / s) (div-le-self R s)
             (λ k b. omega (arith, whole, suc-mul k s, mul-le-mul-right {m = suc k} {n = R / s} s b))
             (omega (arith, whole)),
+        omega (arith, whole),
         omega (arith, suc-mul j (R / s)),
         λ k b.
             let z : R % s + (j - R % s) ≡ j = omega arith in
@@ -102,11 +104,11 @@ module _ (R s : ℕ) (pos : zero < s) where
             ∙ ap₂ (λ (a b : ℕ). R % s + a + b * s) (digits-div (j - R % s) b) (digits-mod (j - R % s) b) ∙ omega arith,
       )
 
-  up-to : (j : ℕ) → j ≤ s → passes R s j ≡ tabulate (passStart R s j) (rowAt R s)
+  pub up-to : (j : ℕ) → j ≤ s → passes R s j ≡ tabulate (passStart R s j) (rowAt R s)
   unfolding passes pass tabulate
   up-to zero h = ap (λ (n : ℕ). tabulate n (rowAt R s)) (let z : zero ≡ passStart R s zero = omega arith in z)
   up-to (suc j) h =
-      let (c, len, next, at) = pass-is j (omega arith) in
+      let (c, len, end, next, at) = pass-is j (omega arith) in
       let rows : pass R s j ≡ tabulate c (λ k. rowAt R s (passStart R s j + k)) =
       ap (λ (n : ℕ). tabulate n (λ k. j + k * s)) len ∙ tabulate-ext c (λ k. j + k * s) (λ k. rowAt R s (passStart R s j + k)) (λ k b. sym (at k b)) in
       ap₂ (λ (a b : List ℕ). a ++ b) (up-to j (omega arith)) rows
@@ -122,7 +124,7 @@ module _ (R s : ℕ) (pos : zero < s) where
   pass-row p h = ap (λ (l : List ℕ). getD l p 0) passes-listed ∙ getD-tabulate R (rowAt R s) p 0 h
 
   -- past the longer passes there are rows only where the others have some
-  pub short-pos : (p : ℕ) → p < R → R % s * (R / s + 1) ≤ p → zero < R / s
+  short-pos : (p : ℕ) → p < R → R % s * (R / s + 1) ≤ p → zero < R / s
   short-pos p h l =
       lt-cases zero (R / s) (λ z. z) (λ z.
       absurd
@@ -163,21 +165,6 @@ module _ (R s : ℕ) (pos : zero < s) where
             omega (arith, div-add-mod' o q, mul-add r q 1, add-mul r (o / q) q),
             row-short p l,
           )
-
-  -- what the code computes at a place of a longer pass, and of another
-  pub long-row : (p : ℕ) → p < R → p < R % s * (R / s + 1) → (longRow R s p ≡ passRow R s p) × (longRow R s p < R)
-  long-row p h l =
-      let (j, k, hj, hR, e, d) = find p h in
-      (sym (pass-row p h ∙ row-long p l), omega (arith, row-long p l))
-
-  pub short-row : (p : ℕ) → p < R → R % s * (R / s + 1) ≤ p
-      → (shortRow R s (p - R % s * (R / s + 1)) ≡ passRow R s p) × (shortRow R s (p - R % s * (R / s + 1)) < R)
-  short-row p h l =
-      let (j, k, hj, hR, e, d) = find p h in
-      (sym (pass-row p h ∙ row-short p l), omega (arith, row-short p l))
-
-  pub long-le : R % s * (R / s + 1) ≤ R
-  long-le = omega (arith, whole, mul-add (R % s) (R / s) 1, mul-comm (R / s) s, mul-le-mul-right {m = R % s} {n = s} (R / s) (omega (arith, rest)))
 
   -- each row once
   pub pass-permutes : Permutes R (passRow R s)

@@ -39,7 +39,7 @@ order-permutes : (T step offset : ℕ) (b : Bool) → zero < step → (b ≡ tru
 order-permutes T step offset true pos ok = let (inverse, rounds, e) = ok refl in continuous-permutes T step inverse rounds offset e
 order-permutes T step offset false pos ok = moved-permutes T step offset pos
 
-column-apart : (n b c : ℕ) → b < 4 → c < 4 → column n b ≡ column n c → b ≡ c
+pub column-apart : (n b c : ℕ) → b < 4 → c < 4 → column n b ≡ column n c → b ≡ c
 column-apart n b c hb hc e = omega arith
 
 whole-apart : (i j : ℕ) → i / 4 ≡ j / 4 → i % 4 ≡ j % 4 → i ≡ j
@@ -178,11 +178,7 @@ source-nibble : (L : Layout) (n b : ℕ) → b < 4 → sourceOf L (n * 4 + b) �
 unfolding sourceOf
 source-nibble L n b h = ap₂ (λ (m k : ℕ). nibbleBit L m (column m k)) (digits-div n h) (digits-mod n h)
 
--- four columns whose bits are those of nibble n: the b-th coded bit of the nibble, and that it is within the block
+-- four columns whose bits are those of nibble n: the b-th coded bit of the nibble
 pub column-source : (L : Layout) (n b first height : ℕ) → ((c : ℕ) → c * height + first ≡ nibbleBit L n c) → b < 4
     → column n b * height + first ≡ sourceOf L (n * 4 + b)
 column-source L n b first height e h = e (column n b) ∙ sym (source-nibble L n b h)
-
-pub column-lt : (L : Layout) → Sound L → (n b first height : ℕ) → ((c : ℕ) → c * height + first ≡ nibbleBit L n c) → n < L .rows + L .parity
-    → column n b * height + first < codedOf L
-column-lt L S n b first height e h = omega (arith, e (column n b), bit-lt L S n h (column n b) (omega arith))

@@ -7,11 +7,13 @@ use native.Mathlib.Nat.{add-zero, add-suc, eq-or-lt-of-le, le-of-suc-le-suc, not
 use native.Mathlib.Numerals.{add-one}
 use native.Mathlib.Omega.{arith}
 use lib.ListN.{length, getD, set, length-set}
-use lib.Seq.{getD-set-same, getD-set-other}
-use Rattle.bits.specs.Lists.{written}
+use lib.Seq.{getD-set-same, getD-set-other, ext-getD}
+use lib.Dec.{eqb}
+use borrow.Author.Tests.{eqb-true, eqb-false}
+use Rattle.bits.specs.Lists.{written, lowest}
 use Rattle.bits.specs.Permutations.{Permutes}
-use Rattle.bits.proofs.NumberLaws.{row-next}
-use Rattle.bits.proofs.ListLaws.{written-of, written-ext}
+use Rattle.bits.proofs.NumberLaws.{lt-cases}
+use Rattle.bits.proofs.ListLaws.{written-of, written-ext, lowest-at, lowest-below}
 use Rattle.bits.proofs.PermutationLaws.{inverse, inverse-after, after-inverse, inverse-lt}
 use Rattle.interleaver.specs.Stores.{stored}
 
@@ -30,17 +32,17 @@ pub stored-next : (n : ℕ) (w v : ℕ → ℕ) (out now : List ℕ) {at x : ℕ
 unfolding stored
 stored-next n w v out now e a b = rw (add-one, e, a, b)
 
+-- four stores
+pub stored-four : (w v : ℕ → ℕ) (out : List ℕ) {a b c d x y z u : ℕ} → a ≡ w 0 → b ≡ w 1 → c ≡ w 2 → d ≡ w 3 → x ≡ v 0 → y ≡ v 1 → z ≡ v 2 → u ≡ v 3
+    → set (set (set (set out a x) b y) c z) d u ≡ stored 4 w v out
+stored-four w v out a b c d x y z u =
+    stored-next 3 w v out _ (stored-next 2 w v out _ (stored-next 1 w v out _ (stored-next 0 w v out out (stored-none w v out) a x) b y) c z) d u
+
 -- the first a stores, and the b after them
 pub stored-append : (a b : ℕ) (w v : ℕ → ℕ) (out : List ℕ) → stored (a + b) w v out ≡ stored b (λ k. w (a + k)) (λ k. v (a + k)) (stored a w v out)
 unfolding stored
 stored-append a zero w v out = rw add-zero
 stored-append a (suc b) w v out = rw (add-suc, stored-append a b w v out)
-
--- a loop's turn: the n-th run of m stores
-pub stored-run : (m n : ℕ) (w v : ℕ → ℕ) (out now next : List ℕ) → now ≡ stored (n * m) w v out
-    → next ≡ stored m (λ k. w (n * m + k)) (λ k. v (n * m + k)) now → next ≡ stored ((n + 1) * m) w v out
-stored-run m n w v out now next e d =
-    d ∙ rw (e, row-next n m) (sym (stored-append (n * m) m w v out))
 
 pub stored-ext : (n : ℕ) (w v w′ v′ : ℕ → ℕ) (out : List ℕ)
     → ((k : ℕ) → k < n → w k ≡ w′ k) → ((k : ℕ) → k < n → v k ≡ v′ k)
@@ -72,6 +74,28 @@ stored-at (suc n) w v out one k h l =
     go (inr b) ih =
         getD-set-other (stored n w v out) (w n) (w k) (v n) 0 (λ e. let z : k ≡ n = one k n h (omega arith) e in omega arith)
         ∙ ih b
+
+-- stores in another order, where no place comes twice
+pub stored-reordered : (n : ℕ) (o w v : ℕ → ℕ) (out : List ℕ) → Permutes n o → ((j k : ℕ) → j < n → k < n → w j ≡ w k → j ≡ k)
+    → ((k : ℕ) → k < n → w k < length out) → stored n w v out ≡ stored n (λ k. w (o k)) (λ k. v (o k)) out
+stored-reordered n o w v out P one room =
+    ext-getD 0 (stored n w v out) (stored n (λ k. w (o k)) (λ k. v (o k)) out) (length-stored n w v out ∙ sym (length-stored n (λ k. w (o k)) (λ k. v (o k)) out)) (λ x l.
+    let k = lowest n (λ j. eqb (w j) x) in
+    lt-cases k n
+    (λ h.
+    let e : w k ≡ x = eqb-true (w k) x (lowest-at n (λ j. eqb (w j) x) h) in
+    let i = inverse n o k in
+    let hi = inverse-lt n o P k h in
+    let f : o i ≡ k = after-inverse n o P k h in
+    rw (← e)
+    (stored-at n w v out one k h (room k h)
+    ∙ sym
+    (ap (λ (y : ℕ). getD (stored n (λ j. w (o j)) (λ j. v (o j)) out) (w y) 0) (sym f)
+    ∙ stored-at n (λ j. w (o j)) (λ j. v (o j)) out (λ a b ha hb z. P .apart a b ha hb (one (o a) (o b) (P .below a ha) (P .below b hb) z)) i hi (room (o i) (P .below i hi)) ∙ ap v f)))
+    (λ h.
+    let none : (j : ℕ) → j < n → x ≡ w j → ⊥ =
+    λ j b e. eqb-false (w j) x (lowest-below n (λ j. eqb (w j) x) j (omega arith)) (sym e) in
+    stored-off n w v out x none ∙ sym (stored-off n (λ j. w (o j)) (λ j. v (o j)) out x (λ j b. none (o j) (P .below j b)))))
 
 -- stores at the places of a permutation fill the start of the buffer
 pub stored-permuted : (n : ℕ) (f v : ℕ → ℕ) (out : List ℕ) → Permutes n f → n ≤ length out

@@ -57,3 +57,8 @@ pub record Small (L : Layout) : Type 0 where
   pub step-lt : L .step < 65536
   pub offset-lt : L .offset < 65536
   pub group-lt : L .group < 65536
+
+-- A layout whose step and offset pass the end of its parity rows at most once.
+pub record Near (L : Layout) : Type 0 where
+  pub step-le : L .step ≤ L .parity
+  pub offset-le : L .offset ≤ L .parity

@@ -3,3 +3,4 @@ pub mod Rows
 pub mod Layouts
 pub mod Source
 pub mod Stores
+pub mod Walks

@@ -1,8 +1,10 @@
 -- Stores into a buffer, one after the other. Assumes nothing.
 use mathlib.Core.Bool.{Bool, cond}
 use mathlib.Core.List.{List}
-use Prim.Native.Nat.{ℕ, zero, suc}
-use lib.ListN.{set}
+use Prim.Native.Nat.{ℕ, zero, suc, _+_, _-_, _*_, _/_, _%_, _^_}
+use lib.ListN.{getD, set}
+use Rattle.interleaver.specs.declared.Layout.{Layout}
+use Rattle.interleaver.specs.Source.{sourceOf}
 
 -- the buffer after v 0 is stored at w 0, v 1 at w 1 and so on, n stores in all
 unfoldable pub stored : ℕ → (ℕ → ℕ) → (ℕ → ℕ) → List ℕ → List ℕ
@@ -15,3 +17,12 @@ target back s i = cond back (s i) i
 
 abbrev pub origin : Bool → (ℕ → ℕ) → ℕ → ℕ
 origin back s i = cond back i (s i)
+
+-- the buffer after nibbles n to m - 1 of the joined stream are carried from source bits to coded bits, or back
+unfoldable pub carried : Layout → Bool → List ℕ → ℕ → ℕ → List ℕ → List ℕ
+carried L back from n m to =
+    stored ((m - n) * 4) (λ i. target back (sourceOf L) (n * 4 + i)) (λ i. getD from (origin back (sourceOf L) (n * 4 + i)) 0) to
+
+-- byte c of a word, from the lowest
+unfoldable pub byteOf : ℕ → ℕ → ℕ
+byteOf word c = word / 256 ^ c % 256

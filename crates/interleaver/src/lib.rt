@@ -4,13 +4,14 @@
 // Internal: nothing here is a public entry. A function with a `requires` is called only where its caller has shown it.
 ghost use mathlib.Core.Path.{_≡_};
 ghost use mathlib.Core.Bool.{cond};
-ghost use Prim.Native.Nat.{ℕ, _+_, _*_, _<_, _≤_};
+ghost use Prim.Native.Nat.{ℕ, _+_, _-_, _*_, _%_, _<_, _≤_};
 ghost use lib.ListN.{length, getD};
 ghost use Rattle.bits.specs.Lists.{written};
-ghost use Rattle.interleaver.specs.Rows.{passRow};
-ghost use Rattle.interleaver.specs.Layouts.{Defined, Sound, Small, layoutOf};
-ghost use Rattle.interleaver.specs.Source.{parityRow, nibbleBit, column, sourceOf, codedOf, codedBits, source, codedAt};
-ghost use Rattle.interleaver.specs.Stores.{stored, target, origin};
+ghost use Rattle.interleaver.specs.Rows.{passes, movedRow};
+ghost use Rattle.interleaver.specs.Layouts.{Defined, Sound, Small, Near, layoutOf};
+ghost use Rattle.interleaver.specs.Source.{isParity, dataPlace, column, codedOf, codedBits, source, codedAt};
+ghost use Rattle.interleaver.specs.Walks.{Walks, Stands};
+ghost use Rattle.interleaver.specs.Stores.{byteOf, stored, target, origin, carried};
 
 // The numbers of the interleaver at one kind and rate.
 pub struct Layout {
@@ -27,10 +28,18 @@ pub struct Layout {
     pub continuous: bool,
 }
 
-// The source bits of one nibble: that of column c is c * height + first.
-struct Columns {
-    first: usize,
-    height: usize,
+// A walk over rows: the row that it stands at, and the pass that it is in.
+struct Walk {
+    row: usize,
+    pass: usize,
+}
+
+// Where the joined stream stands: its next nibble, how many data nibbles come before its next parity nibble, and the walk over the parity rows.
+struct Stand {
+    nibble: usize,
+    left: usize,
+    row: usize,
+    pass: usize,
 }
 
 // Table 11 of 000: kinds 0 to 4 at rate 1/2, then kind 4 at rate 16/18.
@@ -46,7 +55,7 @@ const LEADS: [usize; 2] = [1, 3];
 // The layout of a kind and rate.
 fn layout_of(kind: usize, rate: usize) -> Layout
     requires { ⌜ Defined kind rate ⌝ }
-    ensures { λ r. ⌜ (r ≡ layoutOf kind rate) × (Sound r) × (Small r) ⌝ }
+    ensures { λ r. ⌜ (r ≡ layoutOf kind rate) × (Sound r) × (Small r) × (Near r) ⌝ }
 {
     let rows = card::block_bytes(kind) * 2;
     let group = GROUPS[rate];
@@ -61,86 +70,147 @@ fn layout_of(kind: usize, rate: usize) -> Layout
     }
 }
 
-// The row at place p of the passes. The first rows % step passes have one row more than the others.
-fn pass_row(rows: usize, step: usize, p: usize) -> usize
-    requires { ⌜ (p < rows) × (0 < step) × (rows < 65536) ⌝ }
-    ensures { λ r. ⌜ (r ≡ passRow rows step p) × (r < rows) ⌝ }
+// The walk at its next place.
+fn walk_on(continuous: bool, rows: usize, step: usize, at: Walk) -> Walk
+    requires { ⌜ (at .row < rows) × (at .pass < 65536) × (0 < step) × (step ≤ rows) × (rows < 65536) ⌝ }
+    ensures { λ r. ⌜ ((p : ℕ) → Walks continuous rows step p at → p < rows → Walks continuous rows step (p + 1) r) ⌝ }
 {
-    let q = rows / step;
-    let longer = rows % step;
-    let split = longer * (q + 1);
-    if p < split {
-        p / (q + 1) + p % (q + 1) * step
-    } else {
-        let o = p - split;
-        longer + o / q + o % q * step
+    let row = at.row + step;
+    if row < rows {
+        return Walk { row, pass: at.pass };
     }
-}
-
-// The parity row that the p-th parity nibble is.
-fn parity_row(l: Layout, p: usize) -> usize
-    requires { ⌜ (Sound l) × (Small l) × (p < l .parity) ⌝ }
-    ensures { λ r. ⌜ (r ≡ parityRow l p) × (r < l .parity) ⌝ }
-{
-    if l.continuous {
-        (l.offset + p * l.step) % l.parity
-    } else {
-        (pass_row(l.parity, l.step, p) + l.offset) % l.parity
-    }
-}
-
-// Where nibble n of the joined stream, which holds data or parity, has its four bits.
-fn columns_of(l: Layout, n: usize) -> Columns
-    requires { ⌜ (Sound l) × (Small l) × (n < l .rows + l .parity) ⌝ }
-    ensures { λ r. ⌜ ((c : ℕ) → c * r .height + r .first ≡ nibbleBit l n c) ⌝ }
-{
-    let g = n / (l.group + 1);
-    let e = n % (l.group + 1);
-    if e == l.lead {
-        return Columns {
-            first: l.rows * 4 + parity_row(l, g),
-            height: l.parity,
+    if continuous {
+        return Walk {
+            row: row - rows,
+            pass: at.pass,
         };
     }
-    let d = if l.lead < e { e - 1 } else { e };
-    Columns {
-        first: pass_row(l.rows, l.step, g * l.group + d),
-        height: l.rows,
+    let pass = at.pass + 1;
+    Walk { row: pass, pass }
+}
+
+// A row moved up by the offset.
+fn moved_row(rows: usize, offset: usize, row: usize) -> usize
+    requires { ⌜ (row < rows) × (offset ≤ rows) × (rows < 65536) ⌝ }
+    ensures { λ r. ⌜ (r ≡ movedRow rows offset row) × (r < rows) ⌝ }
+{
+    let moved = row + offset;
+    if moved < rows { moved } else { moved - rows }
+}
+
+// A byte as a word.
+fn wide(b: u8) -> u32
+    ensures { λ r. ⌜ (r ≡ b) × (r < 256) ⌝ }
+{
+    b as u32
+}
+
+// A word's lowest byte.
+fn low(word: u32) -> u8
+    ensures { λ r. ⌜ r ≡ word % 256 ⌝ }
+{
+    (word % 256) as u8
+}
+
+// Four bytes, from a place on and evenly apart, as a word.
+fn gather(from: &[u8], at: usize, apart: usize) -> u32
+    requires { ⌜ at + 3 * apart < length (now from) ⌝ }
+    ensures { λ r. ⌜ ((c : ℕ) → c < 4 → byteOf r c ≡ getD (now (from .entry)) (c * apart + at) 0) ⌝ }
+{
+    let a = wide(from[at]);
+    let b = wide(from[apart + at]);
+    let c = wide(from[2 * apart + at]);
+    let d = wide(from[3 * apart + at]);
+    a + b * 256 + c * 65536 + d * 16777216
+}
+
+// A word's four bytes, stored from a place on and evenly apart.
+fn scatter(word: u32, at: usize, apart: usize, to: &mut [u8])
+    requires { ⌜ at + 3 * apart < length (now to) ⌝ }
+    ensures { λ _. ⌜ now (to .exit) ≡ stored 4 (λ c. c * apart + at) (byteOf word) (now (to .entry)) ⌝ }
+{
+    to[at] = low(word);
+    to[apart + at] = low(word / 256);
+    to[2 * apart + at] = low(word / 65536);
+    to[3 * apart + at] = low(word / 16777216);
+}
+
+// A word whose bytes are turned up so many places.
+fn turned(word: u32, turn: u32) -> u32
+    requires { ⌜ turn < 4 ⌝ }
+    ensures { λ r. ⌜ ((b : ℕ) → b < 4 → byteOf r b ≡ byteOf word ((b + (4 - turn)) % 4)) ⌝ }
+{
+    (word << (turn * 8)) | (word >> ((32 - turn * 8) % 32))
+}
+
+// The four bits of nibble n, whose source bit of column c is c * height + first, from source bits to coded bits or back.
+fn move_nibble(n: usize, first: usize, height: usize, back: bool, from: &[u8], to: &mut [u8])
+    requires { ⌜ (0 < height) × (n * 4 + 4 ≤ length (now from)) × (n * 4 + 4 ≤ length (now to))
+        × (first + 3 * height < length (now from)) × (first + 3 * height < length (now to)) ⌝ }
+    ensures { λ _. ⌜ now (to .exit) ≡ stored 4 (λ b. cond back (column n b * height + first) (n * 4 + b))
+        (λ b. getD (now (from .entry)) (cond back (n * 4 + b) (column n b * height + first)) 0) (now (to .entry)) ⌝ }
+{
+    let turn = (n / 2 % 4) as u32;
+    if back {
+        let word = gather(from, n * 4, 1);
+        scatter(turned(word, (4 - turn) % 4), first, height, to);
+    } else {
+        let word = gather(from, first, height);
+        scatter(turned(word, turn), n * 4, 1, to);
     }
 }
 
-// The column that the b-th bit of nibble n is of, after the nibble's turn.
-fn turned_column(n: usize, b: usize) -> usize
-    requires { ⌜ b < 4 ⌝ }
-    ensures { λ r. ⌜ r ≡ column n b ⌝ }
+// The parity nibble that the joined stream stands at, if it stands at one, and where the stream stands after it.
+fn move_parity(l: Layout, at: Stand, back: bool, from: &[u8], to: &mut [u8]) -> Stand
+    requires { ⌜ (Sound l) × (Small l) × (Near l) × (Stands l at) × (at .nibble < l .rows + l .parity)
+        × (length (now from) ≡ codedOf l) × (codedOf l ≤ length (now to)) ⌝ }
+    ensures stands { λ r. ⌜ (r .nibble ≡ at .nibble + cond (isParity l (at .nibble)) 1 0) × (Stands l r) × (0 < r .left) ⌝ }
+    ensures moved { λ r. ⌜ now (to .exit) ≡ carried l back (now (from .entry)) (at .nibble) (r .nibble) (now (to .entry)) ⌝ }
 {
-    (b + (4 - n / 2 % 4)) % 4
-}
-
-// a on the way back, b on the way out.
-fn choose(back: bool, a: usize, b: usize) -> usize
-    ensures { λ r. ⌜ r ≡ cond back a b ⌝ }
-{
-    if back { a } else { b }
-}
-
-// The four bits of nibble n of the joined stream, from source bits to coded bits or back.
-fn move_nibble(l: Layout, n: usize, back: bool, from: &[u8], to: &mut [u8])
-    requires { ⌜ (Sound l) × (Small l) × (n < l .rows + l .parity) × (length (now from) ≡ codedOf l) × (codedOf l ≤ length (now to)) ⌝ }
-    ensures { λ _. ⌜ now (to .exit) ≡ stored 4 (λ b. target back (sourceOf l) (n * 4 + b))
-        (λ b. getD (now (from .entry)) (origin back (sourceOf l) (n * 4 + b)) 0) (now (to .entry)) ⌝ }
-{
-    let at = columns_of(l, n);
-    let mut b: usize = 0;
-    while b < 4 {
-        let c = turned_column(n, b);
-        let k = c * at.height + at.first;
-        let i = n * 4 + b;
-        let read = choose(back, i, k);
-        let write = choose(back, k, i);
-        to[write] = from[read];
-        b += 1;
+    if 0 < at.left {
+        return at;
     }
+    let row = moved_row(l.parity, l.offset, at.row);
+    move_nibble(at.nibble, l.rows * 4 + row, l.parity, back, from, to);
+    let next = walk_on(
+        l.continuous,
+        l.parity,
+        l.step,
+        Walk {
+            row: at.row,
+            pass: at.pass,
+        },
+    );
+    Stand {
+        nibble: at.nibble + 1,
+        left: l.group,
+        row: next.row,
+        pass: next.pass,
+    }
+}
+
+// The data nibbles of a pass, and the parity nibbles before each of them.
+fn move_pass(l: Layout, pass: usize, start: Stand, back: bool, from: &[u8], to: &mut [u8]) -> Stand
+    requires { ⌜ (Sound l) × (Small l) × (Near l) × (Stands l start) × (pass < l .step)
+        × (dataPlace l (start .nibble) ≡ length (passes (l .rows) (l .step) pass))
+        × (length (now from) ≡ codedOf l) × (codedOf l ≤ length (now to)) ⌝ }
+    ensures stands { λ r. ⌜ (start .nibble ≤ r .nibble) × (Stands l r) × (dataPlace l (r .nibble) ≡ length (passes (l .rows) (l .step) (pass + 1))) ⌝ }
+    ensures moved { λ r. ⌜ now (to .exit) ≡ carried l back (now (from .entry)) (start .nibble) (r .nibble) (now (to .entry)) ⌝ }
+{
+    let mut at = start;
+    let mut row = pass;
+    while row < l.rows {
+        let data = move_parity(l, at, back, from, to);
+        move_nibble(data.nibble, row, l.rows, back, from, to);
+        at = Stand {
+            nibble: data.nibble + 1,
+            left: data.left - 1,
+            row: data.row,
+            pass: data.pass,
+        };
+        row += l.step;
+    }
+    at
 }
 
 // All bits of a block, from source bits to coded bits or back.
@@ -150,11 +220,19 @@ fn move_bits(kind: usize, rate: usize, back: bool, from: &[u8], to: &mut [u8])
         (λ i. getD (now (from .entry)) (origin back (source kind rate) i) 0) (now (to .entry)) ⌝ }
 {
     let l = layout_of(kind, rate);
-    let nibbles = l.rows + l.parity;
-    let mut n: usize = 0;
-    while n < nibbles {
-        move_nibble(l, n, back, from, to);
-        n += 1;
+    let mut at = Stand {
+        nibble: 0,
+        left: l.lead,
+        row: 0,
+        pass: 0,
+    };
+    let mut pass: usize = 0;
+    while pass < l.step {
+        at = move_pass(l, pass, at, back, from, to);
+        pass += 1;
+    }
+    if at.nibble < l.rows + l.parity {
+        move_parity(l, at, back, from, to);
     }
 }
 

@@ -1,0 +1,102 @@
+-- Nibbles carried from source bits to coded bits, or back. Assumes nothing.
+use mathlib.Core.Path.{_≡_, refl, sym, ap, _∙_}
+use mathlib.Core.Bool.{Bool, true, false, cond}
+use mathlib.Core.List.{List}
+use Prim.Native.Nat.{ℕ, zero, suc, _+_, _-_, _*_, _/_, _%_, _<_, _≤_}
+use native.Mathlib.Nat.{mul-le-mul-right, mul-div-cancel, add-right-cancel}
+use native.Mathlib.Omega.{arith}
+use lib.ListN.{length, getD}
+use Rattle.bits.specs.Permutations.{Permutes}
+use Rattle.interleaver.specs.declared.Layout.{Layout}
+use Rattle.interleaver.specs.Source.{nibbleBit, column, sourceOf, codedOf}
+use Rattle.interleaver.specs.Stores.{byteOf, stored, target, origin, carried}
+use Rattle.interleaver.proofs.SourceLaws.{column-apart, column-source}
+use Rattle.interleaver.proofs.StoreLaws.{stored-none, stored-append, stored-ext, stored-reordered}
+
+columns-permute : (n : ℕ) → Permutes 4 (column n)
+columns-permute n = record { below = λ b h. omega arith; apart = column-apart n }
+
+module _ (n first height : ℕ) (back : Bool) (from to now : List ℕ) (word x : ℕ) where
+  -- a word read from four columns and turned on the way out
+  pub nibble-out : back ≡ false → ((c : ℕ) → c < 4 → byteOf word c ≡ getD from (c * height + first) 0)
+      → ((b : ℕ) → b < 4 → byteOf x b ≡ byteOf word (column n b))
+      → now ≡ stored 4 (λ b. b * 1 + n * 4) (byteOf x) to
+      → now ≡ stored 4 (λ b. cond back (column n b * height + first) (n * 4 + b)) (λ b. getD from (cond back (n * 4 + b) (column n b * height + first)) 0) to
+  nibble-out way read turned e =
+      rw way
+      (e
+      ∙ stored-ext 4 _ _ _ _ to (λ b h. let z : b * 1 + n * 4 ≡ n * 4 + b = omega arith in z) (λ b h. turned b h ∙ read (column n b) (omega arith)))
+
+  -- a word read from the coded bits and turned on the way back
+  pub nibble-back : back ≡ true → zero < height → first + 3 * height < length to
+      → ((b : ℕ) → b < 4 → byteOf word b ≡ getD from (b * 1 + n * 4) 0)
+      → ((c : ℕ) → c < 4 → byteOf x c ≡ byteOf word ((c + (4 - (4 - n / 2 % 4) % 4)) % 4))
+      → now ≡ stored 4 (λ c. c * height + first) (byteOf x) to
+      → now ≡ stored 4 (λ b. cond back (column n b * height + first) (n * 4 + b)) (λ b. getD from (cond back (n * 4 + b) (column n b * height + first)) 0) to
+  nibble-back way pos room read turned e =
+      rw way
+      (e ∙ stored-reordered 4 (column n) (λ c. c * height + first) (byteOf x) to (columns-permute n) apart within
+      ∙ stored-ext 4 _ _ _ _ to (λ b h. refl) value)
+    where
+      apart : (j k : ℕ) → j < 4 → k < 4 → j * height + first ≡ k * height + first → j ≡ k
+      apart j k hj hk z = sym (mul-div-cancel j pos) ∙ ap (λ (y : ℕ). y / height) (add-right-cancel first z) ∙ mul-div-cancel k pos
+
+      within : (k : ℕ) → k < 4 → k * height + first < length to
+      within k h = omega (arith, mul-le-mul-right {m = k} {n = 3} height (omega arith))
+
+      value : (b : ℕ) → b < 4 → byteOf x (column n b) ≡ getD from (n * 4 + b) 0
+      value b h =
+          let i : (column n b + (4 - (4 - n / 2 % 4) % 4)) % 4 ≡ b = omega arith in
+          let j : b * 1 + n * 4 ≡ n * 4 + b = omega arith in
+          turned (column n b) (omega arith) ∙ ap (byteOf word) i ∙ read b h ∙ ap (λ (y : ℕ). getD from y 0) j
+
+module _ (L : Layout) (back : Bool) (from : List ℕ) where
+  pub carried-none : (n : ℕ) (to : List ℕ) → to ≡ carried L back from n n to
+  unfolding carried
+  carried-none n to =
+      let e : 0 ≡ (n - n) * 4 = omega arith in
+      stored-none (λ i. target back (sourceOf L) (n * 4 + i)) (λ i. getD from (origin back (sourceOf L) (n * 4 + i)) 0) to
+      ∙ ap (λ (k : ℕ). stored k (λ i. target back (sourceOf L) (n * 4 + i)) (λ i. getD from (origin back (sourceOf L) (n * 4 + i)) 0) to) e
+
+  -- nibbles n to m - 1, and then m to k - 1
+  pub carried-join : (n m k : ℕ) (to then end : List ℕ) → n ≤ m → m ≤ k → then ≡ carried L back from n m to → end ≡ carried L back from m k then
+      → end ≡ carried L back from n k to
+  unfolding carried
+  carried-join n m k to then end h l e d =
+      let at : (i : ℕ) → m * 4 + i ≡ n * 4 + ((m - n) * 4 + i) = λ i. omega arith in
+      let count : (m - n) * 4 + (k - m) * 4 ≡ (k - n) * 4 = omega arith in
+      d
+      ∙ stored-ext ((k - m) * 4) _ _ (λ i. target back (sourceOf L) (n * 4 + ((m - n) * 4 + i))) (λ i. getD from (origin back (sourceOf L) (n * 4 + ((m - n) * 4 + i))) 0) then
+      (λ i b. ap (target back (sourceOf L)) (at i)) (λ i b. ap (λ (y : ℕ). getD from (origin back (sourceOf L) y) 0) (at i))
+      ∙ ap
+      (stored ((k - m) * 4) (λ i. target back (sourceOf L) (n * 4 + ((m - n) * 4 + i))) (λ i. getD from (origin back (sourceOf L) (n * 4 + ((m - n) * 4 + i))) 0)) e
+      ∙ sym
+      (stored-append ((m - n) * 4) ((k - m) * 4) (λ i. target back (sourceOf L) (n * 4 + i)) (λ i. getD from (origin back (sourceOf L) (n * 4 + i)) 0) to)
+      ∙ ap (λ (c : ℕ). stored c (λ i. target back (sourceOf L) (n * 4 + i)) (λ i. getD from (origin back (sourceOf L) (n * 4 + i)) 0) to) count
+
+  -- one nibble, by its columns
+  pub carried-one : (n first height : ℕ) (to now : List ℕ) → ((c : ℕ) → c * height + first ≡ nibbleBit L n c)
+      → now ≡ stored 4 (λ b. cond back (column n b * height + first) (n * 4 + b)) (λ b. getD from (cond back (n * 4 + b) (column n b * height + first)) 0) to
+      → now ≡ carried L back from n (n + 1) to
+  unfolding carried
+  carried-one n first height to now bits e =
+      let one : 4 ≡ (n + 1 - n) * 4 = omega arith in
+      e
+      ∙ stored-ext 4 _ _ (λ i. target back (sourceOf L) (n * 4 + i)) (λ i. getD from (origin back (sourceOf L) (n * 4 + i)) 0) to
+      (λ b h. ap (λ (y : ℕ). cond back y (n * 4 + b)) (column-source L n b first height bits h))
+      (λ b h. ap (λ (y : ℕ). getD from (cond back (n * 4 + b) y) 0) (column-source L n b first height bits h))
+      ∙ ap (λ (k : ℕ). stored k (λ i. target back (sourceOf L) (n * 4 + i)) (λ i. getD from (origin back (sourceOf L) (n * 4 + i)) 0) to) one
+
+  -- all nibbles
+  pub carried-all : (n : ℕ) (to now : List ℕ) → n ≡ L .rows + L .parity → now ≡ carried L back from 0 n to
+      → now ≡ stored (codedOf L) (target back (sourceOf L)) (λ i. getD from (origin back (sourceOf L) i) 0) to
+  unfolding carried
+  carried-all n to now e d =
+      let count : (n - 0) * 4 ≡ codedOf L = omega arith in
+      d
+      ∙ stored-ext ((n - 0) * 4) _ _ (target back (sourceOf L)) (λ i. getD from (origin back (sourceOf L) i) 0) to
+      (λ i b. ap (target back (sourceOf L)) (start i)) (λ i b. ap (λ (y : ℕ). getD from (origin back (sourceOf L) y) 0) (start i))
+      ∙ ap (λ (k : ℕ). stored k (target back (sourceOf L)) (λ i. getD from (origin back (sourceOf L) i) 0) to) count
+    where
+      start : (i : ℕ) → 0 * 4 + i ≡ i
+      start i = omega arith

@@ -1,0 +1,37 @@
+-- Where a walk over rows stands, and where the joined stream does. Assumes nothing.
+use mathlib.Core.Path.{_≡_}
+use mathlib.Core.Bool.{Bool, true, false, cond}
+use Prim.Native.Nat.{ℕ, _+_, _-_, _*_, _%_, _<_, _≤_}
+use lib.Dec.{ltb}
+use lib.ListN.{length}
+use Rattle.interleaver.specs.declared.Layout.{Layout}
+use Rattle.interleaver.specs.declared.Walk.{Walk}
+use Rattle.interleaver.specs.declared.Stand.{Stand}
+use Rattle.interleaver.specs.Rows.{passes}
+use Rattle.interleaver.specs.Source.{groupOf, placeIn}
+
+-- Place p of the passes is the `taken`-th of pass j, at this row, which may be the first past the end.
+pub record OnPass (R step p j row : ℕ) : Type 0 where
+  pub taken : ℕ
+  pub pass-le : j ≤ step
+  pub place-is : p ≡ length (passes R step j) + taken
+  pub row-is : row ≡ j + taken * step
+  pub row-near : row < R + step
+
+-- A walk that stands at place p: of the walk without a restart, or of the passes.
+unfoldable pub Walks : Bool → ℕ → ℕ → ℕ → Walk → Type 0
+Walks true R step p w = (w .row ≡ p * step % R) × (w .pass ≡ 0)
+Walks false R step p w = (OnPass R step p (w .pass) (w .row)) × (p < R → (w .row < R) × (w .pass < step))
+
+-- how many parity nibbles come before nibble n, and how many data nibbles come from it on before the next parity nibble
+unfoldable pub parityPlace : Layout → ℕ → ℕ
+parityPlace L n = groupOf L n + cond (ltb (L .lead) (placeIn L n)) 1 0
+
+unfoldable pub untilParity : Layout → ℕ → ℕ
+untilParity L n = cond (ltb (L .lead) (placeIn L n)) (L .lead + (L .group + 1) - placeIn L n) (L .lead - placeIn L n)
+
+-- The joined stream stands here.
+pub record Stands (L : Layout) (s : Stand) : Type 0 where
+  pub within : s .nibble ≤ L .rows + L .parity
+  pub left-is : s .left ≡ untilParity L (s .nibble)
+  pub walk-is : Walks (L .continuous) (L .parity) (L .step) (parityPlace L (s .nibble)) (record { row = s .row; pass = s .pass })
