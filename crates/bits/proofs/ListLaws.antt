@@ -107,6 +107,18 @@ module _ {A : Type 0} where
       (ap (λ (k : ℕ). drop k (tabulate n g ++ drop n out)) (sym e) ∙ sym (drop-drop (m - n) n (tabulate n g ++ drop n out))
       ∙ ap (drop (m - n)) (drop-at (tabulate n g) (drop n out) n (length-tabulate n g)) ∙ drop-drop (m - n) n out ∙ ap (λ (k : ℕ). drop k out) e)
 
+  -- the first m of n written elements are written again
+  pub written-again : (m n : ℕ) (f g h : ℕ → A) (d : A) (out : List A) → m ≤ n → n ≤ length out → ((i : ℕ) → i < m → g i ≡ h i)
+      → ((i : ℕ) → m ≤ i → i < n → f i ≡ h i) → written m g (written n f out) ≡ written n h out
+  written-again m n f g h d out l r low high =
+      written-of n h d out (written m g (written n f out)) r
+      (length-written m g (written n f out) (omega (arith, length-written n f out r)) ∙ length-written n f out r)
+      (λ i b.
+      lt-cases i m
+      (λ c. getD-written m g (written n f out) i d c ∙ low i c)
+      (λ c. getD-kept m g (written n f out) i d c ∙ getD-written n f out i d b ∙ high i c b))
+      (λ i b. getD-kept m g (written n f out) i d (omega arith) ∙ getD-kept n f out i d b)
+
   -- a loop's turn: the value that belongs at n is stored there
   pub written-next : (n : ℕ) (v : A) (f : ℕ → A) (out now : List A) → now ≡ written n f out → n < length out → v ≡ f n → set now n v ≡ written (n + 1) f out
   unfolding written tabulate

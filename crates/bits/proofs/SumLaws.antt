@@ -1,13 +1,13 @@
 -- Laws of sums and counts over the numbers below n. Assumes nothing.
-use mathlib.Core.Path.{_≡_, refl, sym, ap, _∙_}
+use mathlib.Core.Path.{_≡_, refl, sym, ap, ap₂, _∙_}
 use mathlib.Core.Bool.{Bool, true, false, cond, _&&_}
 use mathlib.Core.Logic.{_⊎_, inl, inr}
 use Prim.Native.Nat.{ℕ, zero, suc, _+_, _-_, _*_, _≤_, _<_}
-use native.Mathlib.Nat.{add-zero, add-suc, zero-mul, suc-mul, eq-or-lt-of-le, le-of-suc-le-suc, not-suc-le-zero}
+use native.Mathlib.Nat.{add-zero, zero-add, add-suc, zero-mul, suc-mul, eq-or-lt-of-le, le-of-suc-le-suc, not-suc-le-zero}
 use native.Mathlib.Decide.{decLt}
 use native.Mathlib.Numerals.{add-one}
 use native.Mathlib.Omega.{arith}
-use lib.Dec.{T, eqb}
+use lib.Dec.{T, eqb, eqb→eq}
 use borrow.Author.Tests.{eq-eqb, ne-eqb}
 use Rattle.bits.specs.Lists.{lowest}
 use Rattle.bits.specs.Sums.{sum, count}
@@ -135,6 +135,21 @@ count-and-none n t u h = count-none n _ (λ k l. at (t k) (u k) (h k l))
     at : (a b : Bool) → (T a → b ≡ false) → (a && b) ≡ false
     at true b e = e tt
     at false b e = refl
+
+-- a test of one number alone
+pub count-one : (n b : ℕ) (t : ℕ → Bool) → b < n → count n (λ k. eqb k b && t k) ≡ cond (t b) 1 0
+unfolding count sum
+count-one zero b t h = absurd (not-suc-le-zero h)
+count-one (suc n) b t h = go (eq-or-lt-of-le (le-of-suc-le-suc h)) (count-one n b t)
+  where
+    go : (b ≡ n) ⊎ (b < n) → (b < n → count n (λ k. eqb k b && t k) ≡ cond (t b) 1 0)
+        → count n (λ k. eqb k b && t k) + cond (eqb n b && t n) 1 0 ≡ cond (t b) 1 0
+    go (inl e) ih =
+        ap₂ _+_ (count-and-none n (λ k. eqb k b) t (λ k l u. absurd (omega (arith, eqb→eq k b u))))
+        (ap (λ (c : Bool). cond (c && t n) 1 0) (eq-eqb n b (sym e)) ∙ ap (λ (m : ℕ). cond (t m) 1 0) (sym e))
+        ∙ zero-add (cond (t b) 1 0)
+    go (inr l) ih =
+        ap₂ _+_ (ih l) (ap (λ (c : Bool). cond (c && t n) 1 0) (ne-eqb n b (λ q. absurd (omega arith)))) ∙ add-zero (cond (t b) 1 0)
 
 -- ---- the numbers that pass, in order
 

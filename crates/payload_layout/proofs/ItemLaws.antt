@@ -1,6 +1,6 @@
 -- Laws of the items: the bit that each carries, its copies, and what received items decide. Assumes nothing.
-use mathlib.Core.Path.{_≡_, refl, sym, ap, subst, _∙_}
-use mathlib.Core.Bool.{Bool, true, false, cond}
+use mathlib.Core.Path.{_≡_, refl, sym, ap, ap₂, subst, _∙_}
+use mathlib.Core.Bool.{Bool, true, false, cond, _&&_}
 use mathlib.Core.List.{List}
 use Prim.Native.Nat.{ℕ, zero, suc, _+_, _-_, _*_, _≤_, _<_}
 use native.Mathlib.Omega.{arith}
@@ -8,18 +8,17 @@ use lib.Dec.{T, eqb, eqb→eq, ltb}
 use lib.ListN.{getD, length, take, drop, length-drop}
 use lib.Seq.{length-take-le, getD-take}
 use borrow.Rule.Slice.PartAt.{part-to-end}
-use borrow.Author.Tests.{lt-ltb, le-ltb, eq-eqb, ltb-true, ltb-false}
-use Rattle.bits.specs.Lists.{tabulate}
+use borrow.Author.Tests.{lt-ltb, le-ltb, eq-eqb, ne-eqb, ltb-true, ltb-false}
+use Rattle.bits.specs.Lists.{tabulate, written}
 use Rattle.bits.specs.Sums.{count}
-use Rattle.bits.proofs.ListLaws.{getD-tabulate, tabulate-of}
-use Rattle.bits.proofs.SumLaws.{count-zero}
-use Rattle.diversity.specs.Votes.{copies, wrongCopies, lostCopies, decided}
-use Rattle.diversity.specs.Counters.{counted, Room}
-use Rattle.diversity.proofs.CounterLaws.{counted-ext, counted-append}
-use Rattle.diversity.proofs.VoteLaws.{decided-as-sent, undamaged}
+use Rattle.bits.proofs.ListLaws.{getD-tabulate, tabulate-of, written-again}
+use Rattle.bits.proofs.RangeLaws.{agree}
+use Rattle.bits.proofs.SumLaws.{count-zero, count-ext, count-and-none, count-one}
+use Rattle.diversity.specs.Votes.{votes, copies, wrongCopies, lostCopies, majority, decided}
+use Rattle.diversity.proofs.VoteLaws.{votes-append, decided-as-sent, undamaged}
 use Rattle.payload_layout.specs.declared.Layout.{Layout}
 use Rattle.payload_layout.specs.Layouts.{items, Laid}
-use Rattle.payload_layout.specs.Items.{carried, carries, sentOn}
+use Rattle.payload_layout.specs.Items.{carried, carries, sentOn, vote, ofOne, ofTwo}
 
 -- ---- the bit that an item carries
 
@@ -70,27 +69,81 @@ module _ (L : Layout) (coded : List ℕ) (long : length coded ≡ L .coded) wher
       tabulate-of (L .pad) _ 0 (take (L .pad) coded) (length-take-le (L .pad) coded (omega arith))
       (λ i h. getD-take (L .pad) coded i 0 h ∙ ap (λ (b : ℕ). getD coded b 0) (pad-place L i))
 
--- the votes of both runs, from the counters `even` on
+-- ---- what received items decide
+
+-- an only copy that is heard, and one that is lost
+pub one-heard : (a : ℕ) → a < 2 → a ≡ ofOne a
+unfolding ofOne majority
+one-heard = agree 2 (λ a. a) ofOne tt
+
+pub one-lost : (a : ℕ) → 2 ≤ a → 2 ≡ ofOne a
+unfolding ofOne majority
+one-lost a h = rw (ne-eqb a 0 (λ e. absurd (omega arith)), ne-eqb a 1 (λ e. absurd (omega arith)))
+
+-- a run that carries the bits in order has one copy of each bit that it reaches
+run-vote : (n b v : ℕ) (run : List ℕ) → b < n → votes n eqb run b v ≡ vote (getD run b 0) v
+unfolding votes
+run-vote n b v run h = count-one n b (λ k. eqb (getD run k 0) v) h
+
+run-none : (n b v : ℕ) (run : List ℕ) → n ≤ b → votes n eqb run b v ≡ 0
+unfolding votes
+run-none n b v run h = count-and-none n (λ k. eqb k b) _ (λ k l t. absurd (omega (arith, eqb→eq k b t)))
+
+module _ (L : Layout) (laid : Laid L) (received : List ℕ) (b : ℕ) (b-lt : b < L .coded) where
+  -- the votes for v: that of the item in place b, and those in the pad
+  bit-votes : (v : ℕ) → votes (items L) (carries L) received b v ≡ vote (getD received b 0) v + votes (L .pad) eqb (drop (L .coded) received) b v
+  unfolding votes
+  bit-votes v =
+      ap (λ (n : ℕ). votes n (carries L) received b v) (laid .full)
+      ∙ votes-append (L .coded) (L .pad) (carries L) eqb received b v (λ j h. carries-pad L j b)
+      ∙ ap (λ (n : ℕ). n + votes (L .pad) eqb (drop (L .coded) received) b v)
+      (count-ext (L .coded) _ _ (λ j h. ap (λ (t : Bool). t && eqb (getD received j 0) v) (sym (carries-data L j h b))) ∙ run-vote (L .coded) b v received b-lt)
+
+  pub decided-once : L .pad ≤ b → ofOne (getD received b 0) ≡ decided (items L) (carries L) received b
+  unfolding ofOne decided
+  decided-once h = sym (ap₂ majority (side 0) (side 1))
+    where
+      side : (v : ℕ) → votes (items L) (carries L) received b v ≡ vote (getD received b 0) v
+      side v = omega (arith, bit-votes v, run-none (L .pad) b v (drop (L .coded) received) h)
+
+  pub decided-twice : b < L .pad → ofTwo (getD received b 0) (getD (drop (L .coded) received) b 0) ≡ decided (items L) (carries L) received b
+  unfolding ofTwo decided
+  decided-twice h = sym (ap₂ majority (side 0) (side 1))
+    where
+      side : (v : ℕ) → votes (items L) (carries L) received b v ≡ vote (getD received b 0) v + vote (getD (drop (L .coded) received) b 0) v
+      side v = bit-votes v ∙ ap (_+_ (vote (getD received b 0) v)) (run-vote (L .pad) b v (drop (L .coded) received) h)
+
+-- both loops together
 module _ (L : Layout) (laid : Laid L) (received : List ℕ) (long : length received ≡ items L) where
   pub data-length : length (take (L .coded) received) ≡ L .coded
   data-length = length-take-le (L .coded) received (omega (arith, laid .full))
 
-  pub pad-length : length (take (length received - L .coded) (drop (L .coded) received)) ≡ L .pad
+  -- the items of the pad
+  abbrev padPart : List ℕ
+  padPart = take (length received - L .coded) (drop (L .coded) received)
+
+  pad-length : length padPart ≡ L .pad
   pad-length = rw (part-to-end received (L .coded), length-drop) (omega (arith, laid .full))
 
-  pub data-counted : (B : ℕ) (even now : List ℕ) → now ≡ counted B (length (take (L .coded) received)) eqb (take (L .coded) received) even
-      → now ≡ counted B (L .coded) (carries L) received even
-  data-counted B even now e =
-      e ∙ rw data-length (counted-ext B (L .coded) (carries L) eqb received (take (L .coded) received) even (carries-data L) (λ j h. getD-take (L .coded) received j 0 h))
+  pub decided-written : (out once now : List ℕ) → L .coded ≤ length out
+      → once ≡ written (length (take (L .coded) received)) (λ b. ofOne (getD (take (L .coded) received) b 0)) out
+      → now ≡ written (length padPart) (λ b. ofTwo (getD received b 0) (getD padPart b 0)) once
+      → now ≡ written (L .coded) (decided (items L) (carries L) received) out
+  decided-written out once now room e d =
+      d ∙ ap (written (length padPart) twos) (e ∙ ap (λ (n : ℕ). written n ones out) data-length) ∙ ap (λ (n : ℕ). written n twos (written (L .coded) ones out)) pad-length
+      ∙ written-again (L .pad) (L .coded) ones twos (decided (items L) (carries L) received) 0 out (laid .within) room
+      (λ b h.
+      ap (λ (l : List ℕ). ofTwo (getD received b 0) (getD l b 0)) (part-to-end received (L .coded))
+      ∙ decided-twice L laid received b (omega (arith, laid .within)) h)
+      (λ b h l. ap ofOne (getD-take (L .coded) received b 0 l) ∙ decided-once L laid received b l h)
+    where
+      ones : ℕ → ℕ
+      ones b = ofOne (getD (take (L .coded) received) b 0)
 
-  pub pad-counted : (B : ℕ) (even now later : List ℕ) → Room B (items L) even → now ≡ counted B (L .coded) (carries L) received even
-      → later ≡ counted B (length (take (length received - L .coded) (drop (L .coded) received))) eqb (take (length received - L .coded) (drop (L .coded) received)) now
-      → later ≡ counted B (items L) (carries L) received even
-  pad-counted B even now later room e f =
-      rw (laid .full)
-      (counted-append B (L .coded) (carries L) received even now e (L .pad) eqb later (λ j h b. carries-pad L j b) (rw (laid .full) at room) (rw pad-length at f))
+      twos : ℕ → ℕ
+      twos b = ofTwo (getD received b 0) (getD padPart b 0)
 
--- ---- copies and decisions
+-- ---- copies and theorems
 
 -- every coded bit has a copy: item b carries bit b
 pub copied : (L : Layout) → Laid L → (b : ℕ) → b < L .coded → 0 < copies (items L) (carries L) b

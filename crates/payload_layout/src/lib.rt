@@ -3,14 +3,12 @@
 // Internal: nothing here is a public entry, and callers show what a function requires.
 ghost use mathlib.Core.Path.{_≡_};
 ghost use Prim.Native.Nat.{_<_, _≤_};
-ghost use lib.Dec.{eqb};
-ghost use lib.ListN.{length, getD, replicate};
+ghost use lib.ListN.{length, getD};
 ghost use Rattle.bits.specs.Lists.{written};
 ghost use Rattle.diversity.specs.Bands.{bandCount};
-ghost use Rattle.diversity.specs.Votes.{majority as majorityOf, decided};
-ghost use Rattle.diversity.specs.Counters.{middle, counted, Room};
+ghost use Rattle.diversity.specs.Votes.{decided};
 ghost use Rattle.payload_layout.specs.Layouts.{layoutOf, items as itemsOf, mostCoded, Laid};
-ghost use Rattle.payload_layout.specs.Items.{carries, sentOn};
+ghost use Rattle.payload_layout.specs.Items.{carries, sentOn, vote, ofOne, ofTwo};
 
 // The numbers of a payload's layout.
 pub struct Layout {
@@ -62,49 +60,67 @@ pub fn send(l: Layout, coded: &[u8], out: &mut [u8])
 
 // ---- decisions
 
-// The most coded bits of a payload.
-const MOST_CODED: usize = 8320;
-
-// A counter for each coded bit, each in the middle.
-fn even_counters() -> [u16; MOST_CODED]
-    ensures { λ r. ⌜ r ≡ replicate mostCoded middle ⌝ }
+// 1 where the two are equal, else 0.
+fn same(item: u8, v: u8) -> u8
+    ensures { λ r. ⌜ r ≡ vote item v ⌝ }
 {
-    [diversity::MIDDLE; MOST_CODED]
+    if item == v { 1 } else { 0 }
 }
 
-// The votes of items that carry the bits in order, from 0 on.
-fn count_run(items: &[u8], counters: &mut [u16; MOST_CODED])
-    requires { ⌜ (length (now items) ≤ mostCoded) × (Room mostCoded (length (now items)) (now counters)) ⌝ }
-    ensures { λ _. ⌜ now (counters .exit) ≡ counted mostCoded (length (now (items .entry))) eqb (now (items .entry)) (now (counters .entry)) ⌝ }
+// What a bit's only copy decides.
+fn of_one(item: u8) -> u8
+    ensures { λ r. ⌜ r ≡ ofOne item ⌝ }
 {
-    let mut n: usize = 0;
-    while n < items.len() {
-        counters[n] = diversity::moved(counters[n], items[n]);
-        n += 1;
+    if item < 2 { item } else { 2 }
+}
+
+// What a bit's two copies decide. Without branches, so that the loop below runs in vectors.
+fn of_two(a: u8, b: u8) -> u8
+    ensures { λ r. ⌜ r ≡ ofTwo a b ⌝ }
+{
+    let zeros = same(a, 0) + same(b, 0);
+    let ones = same(a, 1) + same(b, 1);
+    if ones < zeros {
+        return 0;
+    }
+    if zeros < ones {
+        return 1;
+    }
+    2
+}
+
+// What items that are the only copies of the bits in order decide, at the start of `out`.
+fn decide_ones(items: &[u8], out: &mut [u8])
+    requires { ⌜ length (now items) ≤ length (now out) ⌝ }
+    ensures { λ _. ⌜ now (out .exit) ≡ written (length (now (items .entry))) (λ b. ofOne (getD (now (items .entry)) b 0)) (now (out .entry)) ⌝ }
+{
+    let mut b: usize = 0;
+    while b < items.len() {
+        out[b] = of_one(items[b]);
+        b += 1;
     }
 }
 
-// What the first counters, which started in the middle, decide, at the start of `out`.
-fn decide_counters(coded: usize, counters: &[u16; MOST_CODED], out: &mut [u8])
-    requires { ⌜ (coded ≤ mostCoded) × (coded ≤ length (now out)) ⌝ }
-    ensures { λ _. ⌜ now (out .exit) ≡ written coded (λ b. majorityOf middle (getD (now (counters .entry)) b 0)) (now (out .entry)) ⌝ }
+// The same for the bits that have a second copy in the pad.
+fn decide_twos(items: &[u8], pad: &[u8], out: &mut [u8])
+    requires { ⌜ (length (now pad) ≤ length (now items)) × (length (now pad) ≤ length (now out)) ⌝ }
+    ensures { λ _. ⌜ now (out .exit) ≡ written (length (now (pad .entry)))
+        (λ b. ofTwo (getD (now (items .entry)) b 0) (getD (now (pad .entry)) b 0)) (now (out .entry)) ⌝ }
 {
     let mut b: usize = 0;
-    while b < coded {
-        out[b] = diversity::majority(diversity::MIDDLE, counters[b]);
+    while b < pad.len() {
+        out[b] = of_two(items[b], pad[b]);
         b += 1;
     }
 }
 
 // Each coded bit by strict majority of its copies, at the start of `out`: 0, 1, or 2 where there is none. The items before the pad carry
-// the bits in order, and so do those of the pad.
+// the bits in order, and so do those of the pad, so a bit has one copy or two.
 pub fn decide(l: Layout, items: &[u8], out: &mut [u8])
     requires { ⌜ (Laid l) × (l .coded ≤ mostCoded) × (length (now items) ≡ itemsOf l) × (l .coded ≤ length (now out)) ⌝ }
     ensures { λ _. ⌜ now (out .exit) ≡ written (l .coded) (decided (itemsOf l) (carries l) (now (items .entry))) (now (out .entry)) ⌝ }
 {
     let first = l.coded;
-    let mut counters = even_counters();
-    count_run(&items[..first], &mut counters);
-    count_run(&items[first..], &mut counters);
-    decide_counters(first, &counters, out);
+    decide_ones(&items[..first], out);
+    decide_twos(items, &items[first..], out);
 }
