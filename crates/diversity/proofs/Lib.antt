@@ -7,3 +7,4 @@ pub mod CopyLaws
 pub mod BandLaws
 pub mod UnitLaws
 pub mod CounterLaws
+pub mod RingCounterLaws

@@ -1,5 +1,5 @@
 -- Laws of the ring: the bits that its places carry, its turns, and the run of a symbol on it. Assumes nothing.
-use mathlib.Core.Path.{_≡_, refl, sym, ap, _∙_}
+use mathlib.Core.Path.{_≡_, refl, ap, _∙_}
 use mathlib.Core.List.{List, _++_}
 use Prim.Native.Nat.{ℕ, _+_, _-_, _*_, _/_, _%_, _≤_, _<_}
 use native.Mathlib.Omega.{arith}
@@ -63,23 +63,25 @@ turn-next q ring now h e =
     let same : (q - 512) % 512 ≡ q % 512 = omega arith in
     rw e (getD-written q _ ring (q - 512) 0 (omega arith) ∙ ap (λ (k : ℕ). getD ring k 0) same)
 
+-- two halves of m elements each, the second through the part from m on, which is then put back
+pub two-halves : (m : ℕ) (f : ℕ → ℕ) (out first part : List ℕ) → first ≡ written m (λ n. f (0 + n)) out
+    → part ≡ written m (λ n. f (m + n)) (take (length first - m) (drop m first))
+    → take m first ++ (part ++ drop (length first - m) (drop m first)) ≡ written (m + m) f out
+two-halves m f out first part one two =
+    written-part m m f _ out first part (one ∙ written-ext m _ f out (λ i l. let e : 0 + i ≡ i = omega arith in ap f e)) (λ j l. refl) two
+
 -- two halves of a turn and its repetition fill the ring
 pub ring-filled : (coded ring first part last : List ℕ) → 512 ≤ length ring → first ≡ written 256 (λ n. getD coded (ringBit (2 * 0 + n)) 0) ring
     → part ≡ written 256 (λ n. getD coded (ringBit (2 * 128 + n)) 0) (take (length first - 256) (drop 256 first))
     → let turn = take 256 first ++ (part ++ drop (length first - 256) (drop 256 first)) in
     last ≡ tabulate (length turn) (λ q. getD turn (q % 512) 0) → last ≡ tabulate (length ring) (λ q. getD coded (ringBit q) 0)
 ring-filled coded ring first part last h one two all =
-    rw (whole, length-written 512 (bit-at) ring h) at all
+    rw (two-halves 256 bit-at ring first part one two, length-written 512 bit-at ring h) at all
     ∙ tabulate-ext (length ring) _ _ (λ q l.
     getD-written 512 bit-at ring (q % 512) 0 (omega arith) ∙ ap (λ (b : ℕ). getD coded b 0) (ring-again q))
   where
     bit-at : ℕ → ℕ
     bit-at q = getD coded (ringBit q) 0
-
-    whole : take 256 first ++ (part ++ drop (length first - 256) (drop 256 first)) ≡ written 512 bit-at ring
-    whole =
-        written-part 256 256 bit-at _ ring first part
-        (one ∙ written-ext 256 _ bit-at ring (λ i l. let e : 2 * 0 + i ≡ i = omega arith in ap bit-at e)) (λ j l. refl) two
 
 -- ---- the run of a symbol
 

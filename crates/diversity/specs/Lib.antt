@@ -6,3 +6,4 @@ pub mod Units
 pub mod Lanes
 pub mod Ring
 pub mod Counters
+pub mod RingCounters

@@ -5,17 +5,17 @@
 use refusal::Refusal;
 ghost use mathlib.Core.Path.{_≡_};
 ghost use mathlib.Core.Bool.{cond};
-ghost use mathlib.Core.List.{_∷_, []};
-ghost use Prim.Native.Nat.{_+_, _-_, _*_, _%_, _<_, _≤_};
+ghost use Prim.Native.Nat.{_+_, _-_, _*_, _/_, _%_, _<_, _≤_};
 ghost use lib.Dec.{eqb};
-ghost use lib.ListN.{length, getD, set, replicate};
+ghost use lib.ListN.{length, getD, replicate};
 ghost use Rattle.bits.specs.Lists.{tabulate, written};
 ghost use Rattle.diversity.specs.Bands.{bandCount, firstSubCarrier, lastSubCarrier, symbols as symbolsOf, carriers as carriersOf, itemCount};
 ghost use Rattle.diversity.specs.Units.{placeReport, subCarrierReport, placeOf, subCarrierOf};
 ghost use Rattle.diversity.specs.Votes.{majority as majorityOf, decided};
 ghost use Rattle.diversity.specs.Lanes.{laneBit, rides, laneOf};
-ghost use Rattle.diversity.specs.Ring.{ringBit};
-ghost use Rattle.diversity.specs.Counters.{middle, counted, Room};
+ghost use Rattle.diversity.specs.Ring.{ringBit, ringPlace};
+ghost use Rattle.diversity.specs.Counters.{counted};
+ghost use Rattle.diversity.specs.RingCounters.{level, afterItem, ByteRoom, Small, turnSum, pairSum, bitSum};
 
 // The number of a sub-carrier.
 pub struct SubCarrier(pub usize);
@@ -135,7 +135,10 @@ fn lane_q(place: usize, offset: u8) -> u8
     std::num::wrapping_add_u8(lane_i(place, offset), 128)
 }
 
-// The coded bits on half a turn of the ring, from a place on at which neither lane wraps within it.
+// The ring: places in a row, even ones of lane I and odd ones of lane Q, whose bits come again after a turn of 512. The items of a symbol
+// are a run of it, from twice the symbol's offset on. 1,536 places hold every run of at most 512 carriers.
+
+// The coded bits on half a turn, from a place on such that neither lane wraps within it.
 fn half_turn(place: usize, coded: &[u8], ring: &mut [u8])
     requires { ⌜ (place % 128 ≡ 0) × (length (now coded) ≡ 256) × (256 ≤ length (now ring)) ⌝ }
     ensures { λ _. ⌜ now (ring .exit) ≡ written 256 (λ n. getD (now (coded .entry)) (ringBit (2 * place + n)) 0) (now (ring .entry)) ⌝ }
@@ -150,7 +153,7 @@ fn half_turn(place: usize, coded: &[u8], ring: &mut [u8])
     }
 }
 
-// The first turn of the ring again, up to its end.
+// The first turn again, up to the ring's end.
 fn repeat_turn(ring: &mut [u8])
     requires { ⌜ 512 ≤ length (now ring) ⌝ }
     ensures { λ _. ⌜ now (ring .exit) ≡ tabulate (length (now (ring .entry))) (λ q. getD (now (ring .entry)) (q % 512) 0) ⌝ }
@@ -162,7 +165,7 @@ fn repeat_turn(ring: &mut [u8])
     }
 }
 
-// Room for the ring: a run of 512 carriers from any offset on is within it.
+// Room for the ring.
 fn no_ring() -> [u8; 1536]
     ensures { λ r. ⌜ r ≡ replicate 1536 0 ⌝ }
 {
@@ -189,7 +192,7 @@ fn ring_of(coded: &[u8]) -> [u8; 1536]
     ring
 }
 
-// The items of one symbol: a run of the ring, whose first bit is that of place 0 on lane I.
+// The items of one symbol: a run of the ring, from lane I's bit at place 0 on.
 fn copy_symbol(run: usize, offset: u8, ring: &[u8], out: &mut [u8])
     requires { ⌜ (run ≤ length (now out)) × (2 * offset + run ≤ length (now ring)) ⌝ }
     ensures { λ _. ⌜ now (out .exit) ≡ written run (λ n. getD (now (ring .entry)) (2 * offset + n) 0) (now (out .entry)) ⌝ }
@@ -230,6 +233,13 @@ pub fn copy_items(band: usize, coded: &[u8], out: &mut [u8])
 // Where a counter starts: half of what 16 bits hold.
 pub const MIDDLE: u16 = 32768;
 
+// Where a counter of the ring starts. A symbol has one vote at most for it, so that it has room for 15 symbols up and down, and six of
+// them together are below 256.
+const LEVEL: u8 = 16;
+
+// What the six counters of a bit start at together.
+const SIX_LEVELS: u16 = 96;
+
 // A counter after one item: up for a one, down for a zero.
 pub fn moved(counter: u16, item: u8) -> u16
     requires { ⌜ (0 < counter) × (counter < 65535) ⌝ }
@@ -244,39 +254,58 @@ pub fn moved(counter: u16, item: u8) -> u16
     counter
 }
 
-// The vote of one item for the bit that it carries.
-fn count_item(bit: u8, item: u8, counters: &mut [u16; 256])
-    requires { ⌜ (0 < getD (now counters) bit 0) × (getD (now counters) bit 0 < 65535) ⌝ }
-    ensures { λ _. ⌜ now (counters .exit) ≡ set (now (counters .entry)) bit (getD (now (counters .entry)) bit 0 + cond (eqb item 1) 1 0 - cond (eqb item 0) 1 0) ⌝ }
+// 1 where two bytes are equal, else 0.
+fn same(a: u8, b: u8) -> u8
+    ensures value { λ r. ⌜ r ≡ cond (eqb a b) 1 0 ⌝ }
+    ensures bit { λ r. ⌜ r ≤ 1 ⌝ }
 {
-    let b = bit as usize;
-    counters[b] = moved(counters[b], item);
+    if a == b {
+        return 1;
+    }
+    0
 }
 
-// The votes of one symbol's items.
-fn count_symbol(carriers: usize, offset: u8, items: &[u8], counters: &mut [u16; 256])
-    requires { ⌜ (2 * carriers ≤ length (now items)) × (Room 256 (2 * carriers) (now counters)) ⌝ }
-    ensures { λ _. ⌜ now (counters .exit) ≡ counted 256 (2 * carriers) (rides (laneBit carriers (offset ∷ []))) (now (items .entry)) (now (counters .entry)) ⌝ }
+// A counter of the ring after one item.
+fn voted(counter: u8, item: u8) -> u8
+    requires { ⌜ (0 < counter) × (counter < 255) ⌝ }
+    ensures { λ r. ⌜ r ≡ afterItem counter item ⌝ }
 {
-    let mut place: usize = 0;
-    while place < carriers {
-        count_item(lane_i(place, offset), items[2 * place], counters);
-        count_item(lane_q(place, offset), items[2 * place + 1], counters);
-        place += 1;
+    counter + same(item, 1) - same(item, 0)
+}
+
+// The votes of items that ride the places in order, from the first counter's on.
+fn count_run(items: &[u8], counters: &mut [u8])
+    requires { ⌜ (length (now items) ≤ length (now counters)) × (ByteRoom 1 (now counters)) ⌝ }
+    ensures { λ _. ⌜ now (counters .exit) ≡ written (length (now (items .entry))) (λ i. afterItem (getD (now (counters .entry)) i 0) (getD (now (items .entry)) i 0)) (now (counters .entry)) ⌝ }
+{
+    let mut i: usize = 0;
+    while i < items.len() {
+        counters[i] = voted(counters[i], items[i]);
+        i += 1;
     }
 }
 
+// The votes of one symbol's items: a run on the ring, from lane I's bit at place 0 on.
+fn count_symbol(offset: u8, items: &[u8], counters: &mut [u8])
+    requires { ⌜ (length (now counters) ≡ 1536) × (2 * offset + length (now items) ≤ 1536) × (ByteRoom 1 (now counters)) ⌝ }
+    ensures { λ _. ⌜ now (counters .exit) ≡ counted 1536 (length (now (items .entry))) (rides (λ n. 2 * offset + n)) (now (items .entry)) (now (counters .entry)) ⌝ }
+{
+    let at = 2 * (lane_i(0, offset) as usize);
+    count_run(items, &mut counters[at..]);
+}
+
 // The votes of all items, symbol by symbol.
-fn count_symbols(carriers: usize, offsets: &[u8], items: &[u8], counters: &mut [u16; 256])
-    requires { ⌜ (carriers < 65536) × (2 * (length (now offsets) * carriers) ≤ length (now items)) × (Room 256 (2 * (length (now offsets) * carriers)) (now counters)) ⌝ }
-    ensures { λ _. ⌜ now (counters .exit) ≡ counted 256 (2 * (length (now (offsets .entry)) * carriers)) (rides (laneBit carriers (now (offsets .entry)))) (now (items .entry)) (now (counters .entry)) ⌝ }
+fn count_symbols(carriers: usize, offsets: &[u8], items: &[u8], counters: &mut [u8])
+    requires { ⌜ (carriers ≤ 512) × (2 * (length (now offsets) * carriers) ≤ length (now items)) × (length (now counters) ≡ 1536) × (ByteRoom (length (now offsets)) (now counters)) ⌝ }
+    ensures { λ _. ⌜ now (counters .exit) ≡ counted 1536 (2 * (length (now (offsets .entry)) * carriers)) (rides (ringPlace carriers (now (offsets .entry)))) (now (items .entry)) (now (counters .entry)) ⌝ }
 {
     let run = 2 * carriers;
     let mut n: usize = 0;
     let mut s: usize = 0;
     while s < offsets.len() {
-        count_symbol(carriers, offsets[s], &items[n..], counters);
-        n += run;
+        let end = n + run;
+        count_symbol(offsets[s], &items[n..end], counters);
+        n = end;
         s += 1;
     }
 }
@@ -294,30 +323,105 @@ pub fn majority(zeros: u16, ones: u16) -> u8
     2
 }
 
-// Every counter in the middle.
-fn even_counters() -> [u16; 256]
-    ensures { λ r. ⌜ r ≡ replicate 256 middle ⌝ }
+// A counter for each place of the ring, each level.
+fn level_counters() -> [u8; 1536]
+    ensures { λ r. ⌜ r ≡ replicate 1536 level ⌝ }
 {
-    [MIDDLE; 256]
+    [LEVEL; 1536]
 }
 
-// Room for the decided bits.
+// Room for sums, for pairs and for the decided bits.
+fn no_sums() -> [u8; 512]
+    ensures { λ r. ⌜ r ≡ replicate 512 0 ⌝ }
+{
+    [0u8; 512]
+}
+
+fn no_pairs() -> [u16; 256]
+    ensures { λ r. ⌜ r ≡ replicate 256 0 ⌝ }
+{
+    [0u16; 256]
+}
+
 fn no_bits() -> [u8; 256]
     ensures { λ r. ⌜ r ≡ replicate 256 0 ⌝ }
 {
     [0u8; 256]
 }
 
-// What each counter, which started in the middle, decides.
-fn decide_counters(counters: &[u16; 256]) -> [u8; 256]
-    ensures { λ r. ⌜ r ≡ tabulate 256 (λ b. majorityOf middle (getD (now (counters .entry)) b 0)) ⌝ }
+// The three turns of the ring on one turn.
+fn turn_sums(counters: &[u8]) -> [u8; 512]
+    requires { ⌜ (length (now counters) ≡ 1536) × (Small (now counters)) ⌝ }
+    ensures { λ r. ⌜ r ≡ tabulate 512 (turnSum (now (counters .entry))) ⌝ }
 {
-    let mut bits = no_bits();
+    let mut sums = no_sums();
+    let mut q: usize = 0;
+    while q < 512 {
+        sums[q] = counters[q] + counters[q + 512] + counters[q + 1024];
+        q += 1;
+    }
+    sums
+}
+
+// The counters of a place's two lanes as one number: lane I's are the low byte.
+fn pair(i: u8, q: u8) -> u16
+    ensures { λ r. ⌜ r ≡ i + 256 * q ⌝ }
+{
+    i as u16 + 256 * (q as u16)
+}
+
+// A pair for each place of a turn, since a loop reads pairs in a row faster than every other byte.
+fn pairs(sums: &[u8; 512]) -> [u16; 256]
+    ensures { λ r. ⌜ r ≡ tabulate 256 (λ p. getD (now (sums .entry)) (2 * p) 0 + 256 * getD (now (sums .entry)) (2 * p + 1) 0) ⌝ }
+{
+    let mut both = no_pairs();
+    let mut p: usize = 0;
+    while p < 256 {
+        both[p] = pair(sums[2 * p], sums[2 * p + 1]);
+        p += 1;
+    }
+    both
+}
+
+// A bit by lane I's counters at its own place and lane Q's at the place 128 on, or back.
+fn decide_bit(own: u16, far: u16) -> u8
+    ensures { λ r. ⌜ r ≡ majorityOf 96 (own % 256 + far / 256) ⌝ }
+{
+    majority(SIX_LEVELS, own % 256 + far / 256)
+}
+
+// Half of the bits, from one on such that neither lane wraps within it.
+fn decide_half(first: usize, both: &[u16; 256], bits: &mut [u8])
+    requires { ⌜ (first % 128 ≡ 0) × (first < 256) × (128 ≤ length (now bits)) ⌝ }
+    ensures { λ _. ⌜ now (bits .exit) ≡ written 128 (λ b. majorityOf 96 (pairSum (now (both .entry)) (first + b))) (now (bits .entry)) ⌝ }
+{
+    let i = lane_i(first, 0) as usize;
+    let q = lane_q(first, 0) as usize;
     let mut b: usize = 0;
-    while b < 256 {
-        bits[b] = majority(MIDDLE, counters[b]);
+    while b < 128 {
+        bits[b] = decide_bit(both[i + b], both[q + b]);
         b += 1;
     }
+}
+
+// All bits, by the pairs.
+fn decide_pairs(both: &[u16; 256], bits: &mut [u8])
+    requires { ⌜ length (now bits) ≡ 256 ⌝ }
+    ensures { λ _. ⌜ now (bits .exit) ≡ tabulate 256 (λ b. majorityOf 96 (pairSum (now (both .entry)) b)) ⌝ }
+{
+    decide_half(0, both, bits);
+    decide_half(128, both, &mut bits[128..]);
+}
+
+// What the counters, which started level, decide.
+fn decide_counters(counters: &[u8]) -> [u8; 256]
+    requires { ⌜ (length (now counters) ≡ 1536) × (Small (now counters)) ⌝ }
+    ensures { λ r. ⌜ r ≡ tabulate 256 (λ b. majorityOf 96 (bitSum (now (counters .entry)) b)) ⌝ }
+{
+    let sums = turn_sums(counters);
+    let both = pairs(&sums);
+    let mut bits = no_bits();
+    decide_pairs(&both, &mut bits);
     bits
 }
 
@@ -328,7 +432,7 @@ pub fn decide(band: usize, items: &[u8]) -> [u8; 256]
 {
     let offsets = OFFSETS;
     let count = symbols(band);
-    let mut counters = even_counters();
+    let mut counters = level_counters();
     count_symbols(carriers(band), &offsets[..count], items, &mut counters);
     decide_counters(&counters)
 }

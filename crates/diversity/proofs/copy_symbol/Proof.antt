@@ -1,5 +1,5 @@
 -- `diversity::copy_symbol` meets its contract: the part of the ring is put. Assumes nothing.
-use mathlib.Core.Path.{_≡_, _∙_}
+use mathlib.Core.Path.{_∙_}
 use Prim.Native.Nat.{_+_, _*_}
 use native.Mathlib.Omega.{arith}
 use Rattle.diversity.proofs.RingLaws.{part-put}

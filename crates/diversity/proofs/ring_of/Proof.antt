@@ -1,5 +1,4 @@
 -- `diversity::ring_of` meets its contract. Assumes nothing.
-use mathlib.Core.Path.{_≡_}
 use lib.ListN.{length-replicate}
 use borrow.Author.Needs.{needs}
 use Rattle.diversity.proofs.ring_of.Statement.{statement}
