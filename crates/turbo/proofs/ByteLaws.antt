@@ -2,7 +2,7 @@
 use mathlib.Core.Path.{_≡_, refl, sym, ap, ap₂, _∙_}
 use mathlib.Core.List.{List}
 use Prim.Native.Nat.{ℕ, zero, suc, _+_, _-_, _*_, _/_, _%_, _^_, _≤_, _<_}
-use native.Mathlib.Nat.{mod-lt, add-zero, add-suc}
+use native.Mathlib.Nat.{add-zero, add-suc}
 use native.Mathlib.Omega.{arith}
 use lib.Bits.{bitXor, xor-self, xor-mod, xor-shr}
 use lib.Dec.{lit<}
@@ -10,14 +10,13 @@ use lib.ListN.{length, getD}
 use lib.Pow.{pow-mono, pow-add, shr-shr}
 use Rattle.bits.specs.Bits.{bitOf}
 use Rattle.bits.specs.Lists.{tabulate, written}
-use Rattle.bits.proofs.ListLaws.{getD-tabulate, length-written, getD-written, getD-kept, written-of}
+use Rattle.bits.proofs.ListLaws.{getD-tabulate, written-of}
 use Rattle.bits.proofs.NumberLaws.{lt-cases}
-use Rattle.bits.proofs.RangeLaws.{under}
 use Rattle.turbo.specs.Pairs.{pairAt}
 use Rattle.turbo.specs.Encoder.{next, parity, stateAt}
 use Rattle.turbo.specs.Bytes.{pairIn, fourFrom, parities, byteWord, Doubling, ByBytes, StatesBy, ParitiesBy}
 use Rattle.turbo.proofs.RingLaws.{state-lt, state-ext}
-use Rattle.turbo.proofs.StepLaws.{pair-read}
+use Rattle.turbo.proofs.GatherLaws.{pair-in-byte}
 use Rattle.turbo.proofs.LinearLaws.{word-parts, word-doubled, few-parities}
 
 -- ---- the tables
@@ -33,14 +32,6 @@ word-zero taps = sym (word-parts taps 0 0 (lit< tt) ∙ xor-self (byteWord taps 
 pub word-lt : (taps s b : ℕ) → s < 8 → byteWord taps s b < 65536
 unfolding byteWord
 word-lt taps s b h = omega (arith, few-parities taps (pairIn b) s 4 (omega arith), state-lt taps (pairIn b) s h 4)
-
--- more is written
-pub written-over : (n m : ℕ) (f : ℕ → ℕ) (out : List ℕ) → n ≤ m → m ≤ length out → written m f (written n f out) ≡ written m f out
-written-over n m f out h l =
-    let a : length (written n f out) ≡ length out = length-written n f out (omega arith) in
-    written-of m f 0 out (written m f (written n f out)) l (length-written m f (written n f out) (omega arith) ∙ a)
-    (λ k b. getD-written m f (written n f out) k 0 b)
-    (λ k b. getD-kept m f (written n f out) k 0 b ∙ getD-kept n f out k 0 (omega arith))
 
 -- half of a table of 256 entries
 pub half-le : (taps half : ℕ) (table : List ℕ) → Doubling taps half table → half ≤ 128
@@ -104,12 +95,6 @@ abbrev pub parityBy : ℕ → List ℕ → ℕ → ℕ → ℕ
 parityBy taps bytes from t = parity taps (stateBy taps bytes from t) (pairAt (bitOf bytes) t)
 
 module _ (taps : ℕ) (bytes : List ℕ) (from : ℕ) (hf : from < 8) where
-  in-byte : (i j : ℕ) → j < 4 → pairIn (getD bytes i 0) j ≡ pairAt (bitOf bytes) (4 * i + j)
-  in-byte i j h =
-      let a : (4 * i + j) / 4 ≡ i = omega arith in
-      let b : (4 * i + j) % 4 ≡ j = omega arith in
-      rw (a, b) at (pair-read bytes (4 * i + j))
-
   -- the parity bits of four pairs, from the state before them
   digits : (i : ℕ) → parities taps (λ j. pairAt (bitOf bytes) (4 * i + j)) (stateBy taps bytes from (4 * i)) 4 ≡ fourFrom (parityBy taps bytes from) i
   unfolding parities
@@ -123,8 +108,8 @@ module _ (taps : ℕ) (bytes : List ℕ) (from : ℕ) (hf : from < 8) where
   unfolding byteWord
   word-here i =
       ap₂ (λ (m n : ℕ). m * 256 + n * 8)
-      (parities-ext taps (pairIn (getD bytes i 0)) (λ j. pairAt (bitOf bytes) (4 * i + j)) (stateBy taps bytes from (4 * i)) 4 (in-byte i) ∙ digits i)
-      (state-ext taps (pairIn (getD bytes i 0)) (λ j. pairAt (bitOf bytes) (4 * i + j)) (stateBy taps bytes from (4 * i)) 4 (in-byte i)
+      (parities-ext taps (pairIn (getD bytes i 0)) (λ j. pairAt (bitOf bytes) (4 * i + j)) (stateBy taps bytes from (4 * i)) 4 (pair-in-byte bytes i) ∙ digits i)
+      (state-ext taps (pairIn (getD bytes i 0)) (λ j. pairAt (bitOf bytes) (4 * i + j)) (stateBy taps bytes from (4 * i)) 4 (pair-in-byte bytes i)
       ∙ sym (state-append taps (pairAt (bitOf bytes)) from (4 * i) 4))
 
   word-sum : (i x : ℕ) → x ≡ byteWord taps 0 (getD bytes i 0)

@@ -3,19 +3,18 @@ use mathlib.Core.Path.{_≡_, sym, ap, _∙_, subst}
 use mathlib.Core.Bool.{Bool, true, false, not, _||_}
 use mathlib.Core.List.{List, [], _∷_, _++_}
 use Prim.Native.Nat.{ℕ, _+_, _-_, _*_, _/_, _%_, _<_, _≤_, _∣_}
-use native.Mathlib.Nat.{mod-lt, mod-add-mod, mod-mod-of-dvd, dvd-mul-left, add-mul-mod-self-right, div-add-mod', div-mul-le-self}
+use native.Mathlib.Nat.{mod-lt, mod-mod-of-dvd, dvd-mul-left, add-mul-mod-self-right, div-add-mod', div-mul-le-self}
 use native.Mathlib.Omega.{arith}
 use lib.Dec.{T, eqb, eqb→eq, eqb-refl, ltb, ltb→lt, leb, leb→le}
 use lib.ListN.{length, getD, take, drop}
 use lib.Seq.{ext-getD}
-use borrow.Author.Tests.{eq-eqb, ne-eqb}
 use Rattle.bits.specs.Ranges.{allBelow}
 use Rattle.bits.specs.Permutations.{Permutes}
 use Rattle.bits.proofs.NumberLaws.{lt-cases, mod-near}
 use Rattle.bits.proofs.RangeLaws.{at-each, agree, under}
 use Rattle.card.specs.Modes.{blockBytes}
 use Rattle.turbo.specs.Pairs.{pairCount}
-use Rattle.turbo.specs.Interleave.{starts16, starts72, starts136, starts264, starts520, starts, placeBy, Interleaver, exchangedAt, interleavedBy, place}
+use Rattle.turbo.specs.Interleave.{starts16, starts72, starts136, starts264, starts520, starts, placeBy, Interleaver, place}
 
 module _ (l : ℕ) (s : List ℕ) (I : Interleaver l s) where
   -- the entry of the column of x, and what is reduced mod l
@@ -130,32 +129,12 @@ cut-starts kind h =
     (agree (length (cut kind)) (λ i. getD (cut kind) i 0) (λ i. getD (starts kind) i 0)
     (at-each 5 (λ k. allBelow (length (cut k)) (λ i. eqb (getD (cut k) i 0) (getD (starts k) i 0))) tt kind h))
 
-pub cut-table : (kind : ℕ) (bytes : List ℕ) → kind < 5 → length bytes ≡ blockBytes kind → Interleaver (4 * length bytes) (cut kind)
-cut-table kind bytes h e = rw (cut-starts kind h, e) (table kind h)
+pub few-columns : (kind : ℕ) → kind < 5 → length (starts kind) ≤ 40
+few-columns kind h = leb→le (length (starts kind)) 40 (at-each 5 (λ k. leb (length (starts k)) 40) tt kind h)
 
--- ---- the loop over the places
+pub starts-below : (kind : ℕ) → kind < 5 → (k : ℕ) → k < length (starts kind) → getD (starts kind) k 0 < 2080
+starts-below kind h k l = omega (arith, table kind h .below k l, under 5 2081 pairCount tt kind h)
 
--- a pair as it goes out at an even place, and at an odd one
-pub exchange-even : (x u : ℕ) → x % 2 ≡ 0 → u % 2 * 2 + u / 2 % 2 ≡ exchangedAt x u
-unfolding exchangedAt
-exchange-even x u h = let e : u / 1 ≡ u = omega arith in rw (eq-eqb (x % 2) 0 h, e)
-
-pub exchange-odd : (x u : ℕ) → (x % 2 ≡ 0 → ⊥) → u ≡ exchangedAt x u
-unfolding exchangedAt
-exchange-odd x u h = rw (ne-eqb (x % 2) 0 h)
-
--- the turns of the column
-pub column-next : (n x column r : ℕ) → column ≡ x % n → r ≡ (column + 1) % n → r ≡ (x + 1) % n
-column-next n x column r e q = q ∙ ap (λ (m : ℕ). (m + 1) % n) e ∙ mod-add-mod x n 1
-
--- what stands below the column of x is (x div N)·N
-pub place-read : (l : ℕ) (s : List ℕ) (x column r : ℕ) → column ≡ x % length s → r ≡ (getD s column 0 + l - (x - column)) % l → r ≡ placeBy l s x
-unfolding placeBy
-place-read l s x column r e q =
-    let b : x - x % length s ≡ x / length s * length s = omega (arith, div-add-mod' x (length s)) in
-    q ∙ ap (λ (m : ℕ). (getD s m 0 + l - (x - m)) % l) e ∙ ap (λ (m : ℕ). (getD s (x % length s) 0 + l - m) % l) b
-
-pub interleave-read : (l : ℕ) (s : List ℕ) (p : ℕ → ℕ) (x place pair r : ℕ)
-    → place ≡ placeBy l s x → pair ≡ p place → r ≡ exchangedAt x pair → r ≡ interleavedBy l s p x
-unfolding interleavedBy
-interleave-read l s p x place pair r e f g = g ∙ ap (exchangedAt x) (f ∙ ap p e)
+-- a block's bytes fill whole rows, four at a time
+pub whole-rows : (kind : ℕ) → kind < 5 → blockBytes kind / length (starts kind) * length (starts kind) ≡ blockBytes kind
+whole-rows = agree 5 (λ k. blockBytes k / length (starts k) * length (starts k)) blockBytes tt

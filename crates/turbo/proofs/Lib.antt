@@ -3,6 +3,7 @@ pub mod RingLaws
 pub mod InterleaveLaws
 pub mod PunctureLaws
 pub mod StepLaws
+pub mod GatherLaws
 pub mod LinearLaws
 pub mod ByteLaws
 pub mod ParityLaws

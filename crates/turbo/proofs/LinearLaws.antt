@@ -1,17 +1,17 @@
 -- An encoder is linear in its state and its pairs, so that what a byte does is the sum of what its bits and the state do. Assumes nothing.
 use mathlib.Core.Path.{_≡_, refl, sym, ap, ap₂, _∙_}
 use Prim.Native.Nat.{ℕ, zero, suc, _+_, _-_, _*_, _/_, _%_, _^_, _≤_, _<_}
-use native.Mathlib.Nat.{mod-lt, one-mul, div-add-mod'}
+use native.Mathlib.Nat.{mod-lt, one-mul}
 use native.Mathlib.Omega.{arith}
 use lib.Arith.{bin-ind, digits-div, digits-mod}
 use lib.Dec.{lit<}
-use lib.Bits.{bitXor, differ, xor-step, xor-zero-l, xor-zero-r, xor-comm, xor-shr, xor-mod, xor-block, xor-shifted, xor-lt}
+use lib.Bits.{bitXor, differ, xor-step, xor-zero-l, xor-zero-r, xor-comm, xor-shr, xor-mod, xor-block, xor-shifted}
 use lib.Pow.{pow-add, pow-mono}
 use Rattle.bits.specs.Bits.{bitAt}
 use Rattle.bits.proofs.RangeLaws.{agree₂, agree₃, under₂}
 use Rattle.turbo.specs.Encoder.{plus, zeroInputStep, tapB1, tapB2, tapC, tapD1, tapD2, next, dot, parity, stateAt}
 use Rattle.turbo.specs.Bytes.{pairIn, parities, byteWord}
-use Rattle.turbo.proofs.RingLaws.{linear, next-lt, state-lt}
+use Rattle.turbo.proofs.RingLaws.{linear, state-lt}
 
 -- ---- exclusive-or
 

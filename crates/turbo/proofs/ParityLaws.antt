@@ -10,7 +10,7 @@ use lib.ListN.{length, getD, set}
 use Rattle.bits.specs.Bits.{bitOf, pack, byteOf, bytesOf}
 use Rattle.bits.specs.Lists.{written}
 use Rattle.bits.specs.Sums.{count}
-use Rattle.bits.proofs.ListLaws.{getD-tabulate, length-written, getD-written, written-two, written-ext}
+use Rattle.bits.proofs.ListLaws.{getD-tabulate, length-written, getD-written, written-two}
 use Rattle.bits.proofs.BitLaws.{bits-bytes}
 use Rattle.card.specs.Modes.{blockBytes}
 use Rattle.turbo.specs.Pairs.{pairCount, pairAt}
@@ -164,21 +164,6 @@ unfolding punctured keptBit
 punctured-kept kind rate taps d b e i h =
     let t : ℕ = keptTime kind rate (i / 2) in
     e (2 * t + i % 2) (omega (arith, time-lt kind rate i h)) ∙ both-at kind taps d (i % 2) (2 * t + i % 2) t (omega arith) (omega arith)
-
--- the pairs of encoder 2, listed one by one
-module _ (kind : ℕ) (bytes was list : List ℕ) (e : list ≡ written (pairCount kind) (inputOf kind (bitOf bytes) 1) was) where
-  listed : (t : ℕ) → t < pairCount kind → getD list t 0 ≡ inputOf kind (bitOf bytes) 1 t
-  listed t h = ap (λ (l : List ℕ). getD l t 0) e ∙ getD-written (pairCount kind) (inputOf kind (bitOf bytes) 1) was t 0 h
-
-  pub listed-lt : (t : ℕ) → t < pairCount kind → getD list t 0 < 4
-  listed-lt t h = rw (listed t h) (input-lt kind 1 bytes t)
-
-  pub listed-four : (n : ℕ) (out : List ℕ) → n ≡ blockBytes kind
-      → written n (fourFrom (λ t. getD list t 0)) out ≡ written (blockBytes kind) (fourFrom (inputOf kind (bitOf bytes) 1)) out
-  listed-four n out q =
-      written-ext n (fourFrom (λ t. getD list t 0)) (fourFrom (inputOf kind (bitOf bytes) 1)) out
-      (λ i h. rw (listed (4 * i) (omega arith), listed (4 * i + 1) (omega arith), listed (4 * i + 2) (omega arith), listed (4 * i + 3) (omega arith)))
-      ∙ ap (λ (m : ℕ). written m (fourFrom (inputOf kind (bitOf bytes) 1)) out) q
 
 -- what both passes go over, once the pairs of encoder 2 are packed
 pub inputs : (kind : ℕ) (bytes was second : List ℕ) → kind < 5 → length bytes ≡ blockBytes kind → blockBytes kind ≤ length was

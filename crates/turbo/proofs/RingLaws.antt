@@ -1,5 +1,5 @@
 -- The ring closes: pass two ends where it began, for every kind, taps and data. Assumes nothing.
-use mathlib.Core.Path.{_≡_, refl, sym, ap, ap₂, _∙_}
+use mathlib.Core.Path.{_≡_, refl, sym, ap, _∙_}
 use Prim.Native.Nat.{ℕ, zero, suc, _*_, _/_, _%_, _<_}
 use native.Mathlib.Nat.{mod-lt, zero-mul, one-mul}
 use native.Mathlib.Omega.{arith}
@@ -115,14 +115,6 @@ ring kind taps p hk =
     ap (λ (y : ℕ). stateAt taps p y l) (sym (zero-plus (startOf kind sn)))
     ∙ state-plus taps p 0 (startOf kind sn) (lit< tt) (start-lt kind sn hk hn) l
     ∙ matrix-closes kind sn hk hn
-
--- ---- the parity of pass two
-
--- what pass two gives at t
-pub parity-there : (kind taps : ℕ) (p : ℕ → ℕ) (t a u r : ℕ)
-    → a ≡ stateAt taps p (ringStart kind taps p) t → u ≡ p t → r ≡ parity taps a u → r ≡ parityAt kind taps p t
-unfolding parityAt
-parity-there kind taps p t a u r ha hu hr = hr ∙ ap₂ (parity taps) ha hu
 
 -- ---- a walk asks only for the pairs that it passes
 

@@ -14,10 +14,6 @@ pairIn b j = b / 2 ^ (6 - 2 * j) % 4
 abbrev pub fourFrom : (ℕ → ℕ) → ℕ → ℕ
 fourFrom p i = p (4 * i) * 64 + p (4 * i + 1) * 16 + p (4 * i + 2) * 4 + p (4 * i + 3)
 
--- the first n elements are pairs
-abbrev pub PairsBelow : ℕ → List ℕ → Type 0
-PairsBelow n l = (t : ℕ) → t < n → getD l t 0 < 4
-
 -- the parity bits of the first n of the pairs p from the state s, as digits to the base four
 unfoldable pub parities : ℕ → (ℕ → ℕ) → ℕ → ℕ → ℕ
 parities taps p s zero = 0

@@ -2,11 +2,11 @@
 use mathlib.Core.Path.{_≡_}
 use mathlib.Core.Bool.{cond}
 use mathlib.Core.List.{List, [], _∷_}
-use Prim.Native.Nat.{ℕ, _+_, _-_, _*_, _/_, _%_, _<_, _≤_}
+use Prim.Native.Nat.{ℕ, _+_, _-_, _*_, _/_, _%_, _<_}
 use lib.Dec.{eqb}
 use lib.ListN.{length, getD}
-use Rattle.bits.specs.Bits.{bitAt, bitOf}
-use Rattle.turbo.specs.Pairs.{pairCount, pairAt}
+use Rattle.bits.specs.Bits.{bitAt}
+use Rattle.turbo.specs.Pairs.{pairCount}
 
 -- the tables S for 16, 72, 136, 264 and 520 bytes (000, Tables 4 to 8)
 abbrev pub starts16 : List ℕ
@@ -56,19 +56,9 @@ exchangedAt x u = cond (eqb (x % 2) 0) (exchanged u) u
 unfoldable pub interleavedBy : ℕ → List ℕ → (ℕ → ℕ) → ℕ → ℕ
 interleavedBy l s p x = exchangedAt x (p (placeBy l s x))
 
--- the pairs of some bytes, interleaved by a table
-abbrev pub interleavedPairs : List ℕ → List ℕ → ℕ → ℕ
-interleavedPairs s bytes = interleavedBy (4 * length bytes) s (pairAt (bitOf bytes))
-
 -- I(x) and the interleaved pairs by the kind of a block
 unfoldable pub place : ℕ → ℕ → ℕ
 place kind x = placeBy (pairCount kind) (starts kind) x
 
 unfoldable pub interleaved : ℕ → (ℕ → ℕ) → ℕ → ℕ
 interleaved kind p x = interleavedBy (pairCount kind) (starts kind) p x
-
--- what interleaving asks of a table, of a block's bytes and of the room for its pairs
-pub record Interleaving (s bytes out : List ℕ) : Type 0 where
-  pub table : Interleaver (4 * length bytes) s
-  pub small : length bytes ≤ 520
-  pub room : 4 * length bytes ≤ length out

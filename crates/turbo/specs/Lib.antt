@@ -3,5 +3,6 @@ pub mod Pairs
 pub mod Encoder
 pub mod Interleave
 pub mod Bytes
+pub mod Gather
 pub mod Puncture
 pub mod Parity

@@ -14,8 +14,9 @@ ghost use Rattle.bits.specs.Sums.{count};
 ghost use Rattle.card.specs.Modes.{blockBytes};
 ghost use Rattle.turbo.specs.Pairs.{pairCount, pairAt};
 ghost use Rattle.turbo.specs.Encoder.{next, parity, startOf};
-ghost use Rattle.turbo.specs.Bytes.{pairIn, fourFrom, PairsBelow, byteWord, Doubling, ByBytes, ByStates};
-ghost use Rattle.turbo.specs.Interleave.{Interleaving, exchangedAt, interleavedPairs};
+ghost use Rattle.turbo.specs.Bytes.{pairIn, fourFrom, byteWord, Doubling, ByBytes, ByStates};
+ghost use Rattle.turbo.specs.Interleave.{starts, exchanged};
+ghost use Rattle.turbo.specs.Gather.{twice, placeIn, picked, byRows, exchangedByte, SumsFit, StartsBelow, Gathering, Interleaving};
 ghost use Rattle.turbo.specs.Puncture.{kept, keptCount};
 ghost use Rattle.turbo.specs.Parity.{inputOf, keptBit, bothBits, punctured, Inputs, Started};
 
@@ -176,15 +177,6 @@ fn pairs(kind: usize) -> usize
     4 * card::block_bytes(kind)
 }
 
-// Pair t of some bytes.
-fn pair_at(bytes: &[u8], t: usize) -> u8
-    requires { ⌜ t < 4 * length (now bytes) ⌝ }
-    ensures { λ r. ⌜ r ≡ pairAt (bitOf (now (bytes .entry))) t ⌝ }
-{
-    let b = bytes[t / 4];
-    (b >> (6 - 2 * (t % 4))) % 4
-}
-
 // The step of an encoder with a pair.
 fn step(taps: u16, state: u8, pair: u8) -> u8
     requires { ⌜ (state < 8) × (pair < 4) ⌝ }
@@ -332,52 +324,55 @@ pub fn kept_count(kind: usize, rate: usize) -> usize
     pairs(kind) / 8 * ones
 }
 
-// (start − base + l) mod l, by one test.
-fn wrapped(start: usize, base: usize, l: usize) -> usize
-    requires { ⌜ (start < l) × (base < l) × (l < 2081) ⌝ }
-    ensures { λ r. ⌜ r ≡ (start + l - base) % l ⌝ }
+// The pairs of some bytes, one an element, at the start of `out`.
+fn unpack_pairs(bytes: &[u8], out: &mut [u8])
+    requires { ⌜ (length (now bytes) ≤ 520) × (4 * length (now bytes) ≤ length (now out)) ⌝ }
+    ensures { λ _. ⌜ now (out .exit) ≡ written (4 * length (now (bytes .entry))) (pairAt (bitOf (now (bytes .entry)))) (now (out .entry)) ⌝ }
 {
-    if base <= start {
-        start - base
-    } else {
-        start + l - base
+    let mut i: usize = 0;
+    while i < bytes.len() {
+        let b = bytes[i];
+        out[4 * i] = pair_in(b, 0);
+        out[4 * i + 1] = pair_in(b, 1);
+        out[4 * i + 2] = pair_in(b, 2);
+        out[4 * i + 3] = pair_in(b, 3);
+        i += 1;
     }
 }
 
-// The column after one of n, from the last one back to the first.
-fn next_column(column: usize, n: usize) -> usize
-    requires { ⌜ column < n ⌝ }
-    ensures { λ r. ⌜ r ≡ (column + 1) % n ⌝ }
-{
-    if column + 1 == n { 0 } else { column + 1 }
-}
-
-// A pair as it goes out at x.
-fn exchange(x: usize, pair: u8) -> u8
-    ensures { λ r. ⌜ r ≡ exchangedAt x pair ⌝ }
-{
-    if x % 2 == 0 {
-        pair % 2 * 2 + pair / 2 % 2
-    } else {
-        pair
-    }
-}
-
-// The pairs of some bytes as the interleaver of a table gives them, at the start of `out`. The column is x mod N.
-fn interleave(starts: &[u16], bytes: &[u8], out: &mut [u8])
-    requires { ⌜ Interleaving (now starts) (now bytes) (now out) ⌝ }
-    ensures { λ _. ⌜ now (out .exit) ≡ written (4 * length (now (bytes .entry))) (interleavedPairs (now (starts .entry)) (now (bytes .entry))) (now (out .entry)) ⌝ }
+// The pairs of some bytes, twice, so that a place that runs past the last pair needs no test.
+fn list_twice(bytes: &[u8], out: &mut [u8])
+    requires { ⌜ (length (now bytes) ≤ 520) × (8 * length (now bytes) ≤ length (now out)) ⌝ }
+    ensures { λ _. ⌜ now (out .exit) ≡ written (8 * length (now (bytes .entry))) (twice (4 * length (now (bytes .entry))) (pairAt (bitOf (now (bytes .entry))))) (now (out .entry)) ⌝ }
 {
     let l = 4 * bytes.len();
+    unpack_pairs(bytes, out);
+    unpack_pairs(bytes, &mut out[l..]);
+}
+
+// The table's entries, each moved up.
+fn moved_up(starts: &[u16], by: u16, out: &mut [u16])
+    requires { ⌜ (length (now starts) ≤ length (now out)) × SumsFit (now starts) by ⌝ }
+    ensures { λ _. ⌜ now (out .exit) ≡ written (length (now (starts .entry))) (λ k. getD (now (starts .entry)) k 0 + by) (now (out .entry)) ⌝ }
+{
+    let mut k: usize = 0;
+    while k < starts.len() {
+        out[k] = starts[k] + by;
+        k += 1;
+    }
+}
+
+// Where the pairs of four rows stand, after the first pair of the row below them.
+fn places(starts: &[u16], out: &mut [u16])
+    requires { ⌜ (length (now starts) ≤ 40) × (4 * length (now starts) ≤ length (now out)) × StartsBelow (now starts) ⌝ }
+    ensures { λ _. ⌜ now (out .exit) ≡ written (4 * length (now (starts .entry))) (placeIn (now (starts .entry))) (now (out .entry)) ⌝ }
+{
     let n = starts.len();
-    let mut column: usize = 0;
-    let mut x: usize = 0;
-    while x < l {
-        let start = starts[column] as usize;
-        let from = wrapped(start, x - column, l);
-        out[x] = exchange(x, pair_at(bytes, from));
-        column = next_column(column, n);
-        x += 1;
+    let mut r: usize = 0;
+    while r < 4 {
+        let at = r * n;
+        moved_up(starts, ((3 - r) * n) as u16, &mut out[at..]);
+        r += 1;
     }
 }
 
@@ -389,33 +384,30 @@ fn four(a: u8, b: u8, c: u8, d: u8) -> u8
     a * 64 + b * 16 + c * 4 + d
 }
 
-// Some pairs, four to a byte.
-fn pack_pairs(pairs: &[u8], n: usize, out: &mut [u8])
-    requires { ⌜ (4 * n ≤ length (now pairs)) × (n ≤ length (now out)) ⌝ }
-    requires { ⌜ PairsBelow (4 * n) (now pairs) ⌝ }
-    ensures { λ _. ⌜ now (out .exit) ≡ written n (fourFrom (λ t. getD (now (pairs .entry)) t 0)) (now (out .entry)) ⌝ }
+// What stands in a list at place t.
+fn pick(places: &[u16], list: &[u8], t: usize) -> u8
+    requires { ⌜ (t < length (now places)) × (getD (now places) t 0 < length (now list)) ⌝ }
+    ensures { λ r. ⌜ r ≡ picked (now (places .entry)) (now (list .entry)) t ⌝ }
 {
-    let mut i: usize = 0;
-    while i < n {
-        out[i] = four(
-            pairs[4 * i],
-            pairs[4 * i + 1],
-            pairs[4 * i + 2],
-            pairs[4 * i + 3],
-        );
-        i += 1;
-    }
+    let at = places[t] as usize;
+    list[at]
 }
 
-// The pairs that encoder 2 reads, at the start of `out`.
-fn second_input(kind: usize, bytes: &[u8], out: &mut [u8])
-    requires { ⌜ (kind < 5) × (length (now bytes) ≡ blockBytes kind) × (pairCount kind ≤ length (now out)) ⌝ }
-    ensures { λ _. ⌜ now (out .exit) ≡ written (pairCount kind) (inputOf kind (bitOf (now (bytes .entry))) 1) (now (out .entry)) ⌝ }
+// The pairs at some places of a list, four to a byte, at the start of `out`.
+fn gather(places: &[u16], list: &[u8], out: &mut [u8])
+    requires { ⌜ Gathering (now places) (now list) (now out) ⌝ }
+    ensures { λ _. ⌜ now (out .exit) ≡ written (length (now (places .entry)) / 4) (fourFrom (picked (now (places .entry)) (now (list .entry)))) (now (out .entry)) ⌝ }
 {
-    let starts = STARTS;
-    let from = ENDS[kind];
-    let to = ENDS[kind + 1];
-    interleave(&starts[from..to], bytes, out);
+    let n = places.len() / 4;
+    let mut i: usize = 0;
+    while i < n {
+        let a = pick(places, list, 4 * i);
+        let b = pick(places, list, 4 * i + 1);
+        let c = pick(places, list, 4 * i + 2);
+        let d = pick(places, list, 4 * i + 3);
+        out[i] = four(a, b, c, d);
+        i += 1;
+    }
 }
 
 // The states of encoder 1 and encoder 2.
@@ -493,14 +485,84 @@ fn puncture(kind: usize, rate: usize, packed: &[u8], out: &mut [u8])
     }
 }
 
-// The pairs that encoder 2 reads, one by one at the start of `list`, and four to a byte at the start of `out`.
+// The pairs of a list in the interleaver's order, n bytes of them: four rows of it at a time, each lower by four rows than the one before.
+fn interleave(places: &[u16], list: &[u8], n: usize, out: &mut [u8])
+    requires { ⌜ Interleaving (now places) (now list) n (now out) ⌝ }
+    ensures { λ _. ⌜ now (out .exit) ≡ written n (fourFrom (byRows (now (places .entry)) (now (list .entry)) n)) (now (out .entry)) ⌝ }
+{
+    let width = places.len() / 4;
+    let mut at: usize = 0;
+    while at < n {
+        let base = 4 * (n - at) - 3 * width;
+        gather(places, &list[base..], &mut out[at..]);
+        at += width;
+    }
+}
+
+// A pair with its two bits exchanged.
+fn exchanged_pair(pair: u8) -> u8
+    requires { ⌜ pair < 4 ⌝ }
+    ensures { λ r. ⌜ r ≡ exchanged pair ⌝ }
+{
+    pair % 2 * 2 + pair / 2
+}
+
+// A byte's pairs as they go out: the first and the third, which go out at even places, with their bits exchanged.
+fn exchange(byte: u8) -> u8
+    ensures { λ r. ⌜ r ≡ exchangedByte byte ⌝ }
+{
+    four(
+        exchanged_pair(byte / 64),
+        byte / 16 % 4,
+        exchanged_pair(byte / 4 % 4),
+        byte % 4,
+    )
+}
+
+// The first n bytes, exchanged.
+fn exchange_all(n: usize, out: &mut [u8])
+    requires { ⌜ n ≤ length (now out) ⌝ }
+    ensures { λ _. ⌜ now (out .exit) ≡ written n (λ i. exchangedByte (getD (now (out .entry)) i 0)) (now (out .entry)) ⌝ }
+{
+    let mut i: usize = 0;
+    while i < n {
+        out[i] = exchange(out[i]);
+        i += 1;
+    }
+}
+
+// The columns of a kind's table.
+fn columns(kind: usize) -> usize
+    requires { ⌜ kind < 5 ⌝ }
+    ensures { λ r. ⌜ r ≡ length (starts kind) ⌝ }
+{
+    ENDS[kind + 1] - ENDS[kind]
+}
+
+// The places of four rows by a kind's table.
+fn row_places(kind: usize, out: &mut [u16])
+    requires { ⌜ (kind < 5) × (length (now out) ≡ 160) ⌝ }
+    ensures { λ _. ⌜ now (out .exit) ≡ written (4 * length (starts kind)) (placeIn (starts kind)) (now (out .entry)) ⌝ }
+{
+    let table = STARTS;
+    let from = ENDS[kind];
+    let to = ENDS[kind + 1];
+    places(&table[from..to], out);
+}
+
+// The pairs that encoder 2 reads, four to a byte, at the start of `out`. The list is left with the block's pairs twice.
 fn second_bytes(kind: usize, bytes: &[u8], list: &mut [u8], out: &mut [u8])
-    requires { ⌜ (kind < 5) × (length (now bytes) ≡ blockBytes kind) × (pairCount kind ≤ length (now list)) × (blockBytes kind ≤ length (now out)) ⌝ }
-    ensures { λ _. ⌜ now (list .exit) ≡ written (pairCount kind) (inputOf kind (bitOf (now (bytes .entry))) 1) (now (list .entry)) ⌝ }
+    requires { ⌜ (kind < 5) × (length (now bytes) ≡ blockBytes kind) × (8 * blockBytes kind ≤ length (now list)) × (blockBytes kind ≤ length (now out)) ⌝ }
+    ensures { λ _. ⌜ now (list .exit) ≡ written (8 * length (now (bytes .entry))) (twice (4 * length (now (bytes .entry))) (pairAt (bitOf (now (bytes .entry))))) (now (list .entry)) ⌝ }
     ensures { λ _. ⌜ now (out .exit) ≡ written (blockBytes kind) (fourFrom (inputOf kind (bitOf (now (bytes .entry))) 1)) (now (out .entry)) ⌝ }
 {
-    second_input(kind, bytes, list);
-    pack_pairs(list, bytes.len(), out);
+    let mut rows = [0u16; 160];
+    let end = 4 * columns(kind);
+    let both = 8 * bytes.len();
+    row_places(kind, &mut rows);
+    list_twice(bytes, list);
+    interleave(&rows[..end], &list[..both], bytes.len(), out);
+    exchange_all(bytes.len(), out);
 }
 
 // The parity bits of both encoders in turn, eight to a byte, at the start of `out`. `second` holds the pairs that encoder 2 reads.
@@ -520,7 +582,7 @@ pub fn encode(kind: usize, rate: usize, taps: u16, bytes: &[u8], out: &mut [u8])
     requires { ⌜ (kind < 5) × (rate < 2) × (length (now bytes) ≡ blockBytes kind) × (keptCount kind rate ≤ length (now out)) ⌝ }
     ensures { λ _. ⌜ now (out .exit) ≡ written (keptCount kind rate) (keptBit kind rate taps (bitOf (now (bytes .entry)))) (now (out .entry)) ⌝ }
 {
-    let mut list = [0u8; 2080];
+    let mut list = [0u8; 4160];
     let mut second = [0u8; 520];
     let mut packed = [0u8; 520];
     second_bytes(kind, bytes, &mut list, &mut second);

@@ -1,6 +1,6 @@
 -- `turbo::byte_word` meets its contract. The invariant: s is the state and `parities` has the parity bits after j pairs. Assumes nothing.
-use mathlib.Core.Path.{_≡_, refl, sym, ap, ap₂, _∙_}
-use Prim.Native.Nat.{ℕ, _+_, _-_, _*_, _^_, _≤_, _<_}
+use mathlib.Core.Path.{_≡_, refl, ap, ap₂, _∙_}
+use Prim.Native.Nat.{ℕ, _+_, _-_, _*_, _≤_, _<_}
 use native.Mathlib.Nat.{mod-lt}
 use native.Mathlib.Numerals.{add-one}
 use native.Mathlib.Omega.{arith}
@@ -8,7 +8,6 @@ use lib.Dec.{lit<}
 use borrow.Author.Needs.{needs}
 use Rattle.turbo.specs.Encoder.{parity, stateAt}
 use Rattle.turbo.specs.Bytes.{pairIn, parities, byteWord}
-use Rattle.turbo.proofs.RingLaws.{state-lt}
 use Rattle.turbo.proofs.LinearLaws.{few-parities, bit-lt}
 use Rattle.turbo.proofs.ParityLaws.{state-none, state-next, state-small}
 use Rattle.turbo.proofs.byte_word.Statement.{statement}

@@ -26,7 +26,7 @@ slice-aggregate-second-bytes-2 : tie.Need-slice-aggregate-second-bytes-2
 slice-aggregate-second-bytes-2 c = search needs
 
 second-bytes-requires : tie.Need-second-bytes-requires
-second-bytes-requires c κs = let z = c .before .before .before .before in (z .pre .0, z .pre .2, fits z, omega (arith, fits z))
+second-bytes-requires c κs = let z = c .before .before .before .before in (z .pre .0, z .pre .2, omega (arith, fits z), omega (arith, fits z))
 
 slice-aggregate-parity-bytes : tie.Need-slice-aggregate-parity-bytes
 slice-aggregate-parity-bytes c = search needs

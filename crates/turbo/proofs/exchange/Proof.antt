@@ -1,20 +1,25 @@
--- `turbo::exchange` meets its contract. Assumes nothing.
 use borrow.Author.Needs.{needs}
-use Rattle.turbo.proofs.InterleaveLaws.{exchange-even, exchange-odd}
+-- `turbo::exchange` meets its contract. Assumes nothing.
+use native.Mathlib.Omega.{arith}
+use borrow.Author.Needs.{needs}
+use Rattle.turbo.specs.Gather.{exchangedByte}
 use Rattle.turbo.proofs.exchange.Statement.{statement}
 use Rattle.turbo.proofs.exchange.Tie as tie
 
-mul-result : tie.Need-mul-result
-mul-result c = search needs
+exchanged-pair-requires : tie.Need-exchanged-pair-requires
+exchanged-pair-requires c κs = search needs
 
-add-result : tie.Need-add-result
-add-result c = search needs
+exchanged-pair-requires-2 : tie.Need-exchanged-pair-requires-2
+exchanged-pair-requires-2 c κs = search needs
+
+four-requires : tie.Need-four-requires
+four-requires c κs = search needs
 
 returns : tie.Need-returns
-returns c = exchange-even (c .before .args .x) (c .before .args .pair) (c .if1 .taken)
-
-returns-2 : tie.Need-returns-2
-returns-2 c = exchange-odd (c .before .args .x) (c .before .args .pair) (c .if1 .left)
+unfolding exchangedByte
+returns c =
+    omega (arith, c .four .ensures, c .before .exchanged-pair2 .ensures, c .before .before .exchanged-pair .ensures)
 
 pub exchange-spec : {M : Type 1} → statement M
-exchange-spec = tie.close (tie.spec mul-result add-result returns returns-2)
+exchange-spec =
+    tie.close (tie.spec exchanged-pair-requires exchanged-pair-requires-2 four-requires returns)

@@ -1,0 +1,43 @@
+use borrow.Author.Needs.{needs}
+-- `turbo::columns` meets its contract. Assumes nothing.
+use Prim.Native.Nat.{_+_, _-_}
+use lib.ListN.{length}
+use borrow.Author.Needs.{needs}
+use Rattle.bits.proofs.RangeLaws.{agree}
+use Rattle.turbo.specs.Interleave.{starts}
+use Rattle.turbo.proofs.InterleaveLaws.{endOf, end-le}
+use Rattle.turbo.proofs.columns.Statement.{statement}
+use Rattle.turbo.proofs.columns.Tie as tie
+
+add-result : tie.Need-add-result
+add-result c = search needs
+
+mul-result : tie.Need-mul-result
+mul-result c = search needs
+
+array-read-result : tie.Need-array-read-result
+array-read-result c = search needs
+
+mul-result-2 : tie.Need-mul-result-2
+mul-result-2 c = search needs
+
+array-read-result-2 : tie.Need-array-read-result-2
+array-read-result-2 c = search needs
+
+sub-result : tie.Need-sub-result
+sub-result c = end-le (c .args .kind) (c .pre)
+
+returns : tie.Need-returns
+returns c = agree 5 (λ k. endOf (k + 1) - endOf k) (λ k. length (starts k)) tt (c .args .kind) (c .pre)
+
+pub columns-spec : {M : Type 1} → statement M
+columns-spec =
+    tie.close
+    (tie.spec
+    add-result
+    mul-result
+    array-read-result
+    mul-result-2
+    array-read-result-2
+    sub-result
+    returns)
