@@ -62,10 +62,12 @@ module _ (B n : ℕ) (on : ℕ → ℕ → Bool) (items counters now : List ℕ)
 
   -- m items more, which are counted by themselves
   pub counted-more : (m : ℕ) (part : ℕ → ℕ → Bool) (next later : List ℕ) → ((j : ℕ) → j < m → (b : ℕ) → part j b ≡ on (n + j) b)
-      → ((j : ℕ) → j < m → getD next j 0 ≡ getD (drop n items) j 0) → ((b : ℕ) → b < B → votes (n + m) on items b 0 ≤ getD counters b 0)
+      → ((j : ℕ) → j < m → getD next j 0 ≡ getD (drop n items) j 0)
+      → ((b : ℕ) → b < B → votes (n + m) on items b 0 ≤ getD counters b 0)
       → later ≡ counted B m part next now → later ≡ counted B (n + m) on items counters
   unfolding counted
-  counted-more m part next later same alike few e = e ∙ counted-ext B m part part (drop n items) next now (λ j l b. refl) alike ∙ tabulate-ext B _ _ each
+  counted-more m part next later same alike few e =
+      e ∙ counted-ext B m part part (drop n items) next now (λ j l b. refl) alike ∙ tabulate-ext B _ _ each
     where
       each : (b : ℕ) → b < B
           → getD now b 0 + votes m part (drop n items) b 1 - votes m part (drop n items) b 0
@@ -86,7 +88,9 @@ module _ (B n : ℕ) (on : ℕ → ℕ → Bool) (items counters now : List ℕ)
       counted-more m part _ later same (λ j l. ap (λ (xs : List ℕ). getD xs j 0) (part-to-end items n))
       (λ b l. let r = room .each b l in omega (arith, votes-le (n + m) on items b 0)) e
 
-pub counted-start : (B : ℕ) (on : ℕ → ℕ → Bool) (items counters : List ℕ) → length counters ≡ B → counters ≡ counted B 0 on items counters
+-- before any item
+pub counted-start : (B : ℕ) (on : ℕ → ℕ → Bool) (items counters : List ℕ) → length counters ≡ B
+    → counters ≡ counted B 0 on items counters
 unfolding counted
 counted-start B on items counters long =
     tabulate-of B _ 0 counters long (λ b l. omega (arith, votes-none on items b 0, votes-none on items b 1))

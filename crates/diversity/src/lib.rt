@@ -135,8 +135,8 @@ fn lane_q(place: usize, offset: u8) -> u8
     std::num::wrapping_add_u8(lane_i(place, offset), 128)
 }
 
-// The ring: places in a row, even ones of lane I and odd ones of lane Q, whose bits come again after a turn of 512. The items of a symbol
-// are a run of it, from twice the symbol's offset on. 1,536 places hold every run of at most 512 carriers.
+// The ring: places in a row, even ones of lane I and odd ones of lane Q, whose bits come again after a turn of 512. The items of a
+// symbol are a run of it, from twice the symbol's offset on. 1,536 places hold every run of at most 512 carriers.
 
 // The coded bits on half a turn, from a place on such that neither lane wraps within it.
 fn half_turn(place: usize, coded: &[u8], ring: &mut [u8])
@@ -233,8 +233,8 @@ pub fn copy_items(band: usize, coded: &[u8], out: &mut [u8])
 // Where a counter starts: half of what 16 bits hold.
 pub const MIDDLE: u16 = 32768;
 
-// Where a counter of the ring starts. A symbol has one vote at most for it, so that it has room for 15 symbols up and down, and six of
-// them together are below 256.
+// Where a counter of the ring starts. A symbol has one vote at most for it, so it has room for 15 symbols up and down, and six of
+// them together stay below 256.
 const LEVEL: u8 = 16;
 
 // What the six counters of a bit start at together.

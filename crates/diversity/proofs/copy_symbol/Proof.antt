@@ -41,7 +41,8 @@ returns c =
     let args = lane .before .before .before .args in
     let at = 2 * lane .lane-i .result in
     put .put .ensures
-    ∙ part-put (args .ring .now) (args .out .now) at (at + args .run) (2 * args .offset) (args .run) (omega arith) (omega arith) (omega arith)
+    ∙ part-put (args .ring .now) (args .out .now) at (at + args .run) (2 * args .offset) (args .run)
+    (omega arith) (omega arith) (omega arith)
 
 pub copy-symbol-spec : {M : Type 1} → statement M
 copy-symbol-spec =

@@ -60,7 +60,8 @@ copy-symbol-requires : tie.Need-copy-symbol-requires Inv-loop μ-loop
 copy-symbol-requires c κs =
     let read = c .before .before in
     let turn = read .before in
-    (simp (length-take, length-drop) (omega (arith, fits turn)), omega (arith, ring-long turn, read .shared-slice-known3 .given (turn .before .loop .s)))
+    let offset = read .shared-slice-known3 .given (turn .before .loop .s) in
+    (simp (length-take, length-drop) (omega (arith, fits turn)), omega (arith, ring-long turn, offset))
 
 add-n : tie.Need-add-n Inv-loop μ-loop
 add-n c = omega (arith, fits (c .before .before .before .before .before .before))
@@ -84,8 +85,8 @@ loop-again c =
       omega (arith, row-next (at .s) (args .carriers)),
       omega arith,
       written-part _ _ _ _ _ _ _ (at .inv .4)
-          (λ j l. ring-run (args .carriers) (args .offsets .now) (args .coded .now) _ (at .s) (at .n) j (turn .before .before .ring-of .ensures)
-          (at .inv .2) l (omega (arith, offset)))
+          (λ j l. ring-run (args .carriers) (args .offsets .now) (args .coded .now) _ (at .s) (at .n) j
+          (turn .before .before .ring-of .ensures) (at .inv .2) l (omega (arith, offset)))
           (copied .copy-symbol .ensures),
     )
 

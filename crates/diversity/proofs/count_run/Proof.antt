@@ -13,7 +13,8 @@ use Rattle.diversity.proofs.count_run.Tie as tie
 
 abbrev Inv-loop : tie.InvT-loop
 Inv-loop items counters₀ i₀ counters i =
-    (i ≤ length items) × (counters ≡ written i (λ i. afterItem (getD counters₀ i 0) (getD items i 0)) counters₀) × (length counters ≡ length counters₀)
+    (i ≤ length items) × (counters ≡ written i (λ i. afterItem (getD counters₀ i 0) (getD items i 0)) counters₀)
+    × (length counters ≡ length counters₀)
 
 abbrev μ-loop : tie.MeasureT-loop
 μ-loop items counters₀ i₀ counters i = length items - i

@@ -35,8 +35,8 @@ returns : tie.Need-returns
 returns c =
     let run = c .before .before in
     let start = run .before .before .before .before .before in
-    symbol-counted (start .args .offset) _ (start .args .items .now) (start .args .counters .now) _ (start .pre .0) (omega arith) (start .pre .1)
-    (run .count-run .ensures)
+    symbol-counted (start .args .offset) _ (start .args .items .now) (start .args .counters .now) _
+    (start .pre .0) (omega arith) (start .pre .1) (run .count-run .ensures)
 
 pub count-symbol-spec : {M : Type 1} → statement M
 count-symbol-spec =

@@ -79,8 +79,9 @@ loop-again c =
       refl,
       omega (arith, row-next (at .s) (start .args .carriers)),
       omega arith,
-      symbol-more (start .args .carriers) (start .args .offsets .now) (start .args .items .now) _ _ (at .s) (at .n) _ (at .inv .2) (at .inv .4) (start .pre .2)
-          (turn .loop-test .taken) (start .pre .3) _ _ refl (omega (arith, fits turn)) (counted .count-symbol .ensures),
+      symbol-more (start .args .carriers) (start .args .offsets .now) (start .args .items .now) _ _ (at .s) (at .n) _
+          (at .inv .2) (at .inv .4) (start .pre .2) (turn .loop-test .taken) (start .pre .3) _ _ refl
+          (omega (arith, fits turn)) (counted .count-symbol .ensures),
     )
 
 same-length : tie.Need-same-length Inv-loop μ-loop

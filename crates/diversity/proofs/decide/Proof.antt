@@ -1,4 +1,5 @@
--- `diversity::decide` meets its contract: the tables of the band are those that the loop is given, and the counters tell the majority. Assumes nothing.
+-- `diversity::decide` meets its contract: the tables of the band are those that the loop is given, and the counters tell the
+-- majority. Assumes nothing.
 use mathlib.Core.Path.{_≡_, sym}
 use Prim.Native.Nat.{_≤_}
 use native.Mathlib.Omega.{arith}
@@ -58,12 +59,14 @@ slice-aggregate-decide-counters c = search needs
 decide-counters-requires : tie.Need-decide-counters-requires
 decide-counters-requires c κs =
     let counted = c .before .before in
+    let size = counted .before .before .before .carriers in
     let count = counted .before .before .before .before .before in
     let start = count .before .before in (
       search needs,
-      ring-small (counted .before .before .before .carriers .result) (take (count .symbols .result) symbolOffsets) (start .args .items .now) _ _ (omega (arith, carriers-below _ (start .pre .0)))
-          (offset-bytes _ _ (start .pre .0) (count .symbols .ensures)) (omega (arith, few-symbols count))
-          (counted .before .before .before .before .level-counters .ensures) (counted .count-symbols .ensures),
+      ring-small (size .result) (take (count .symbols .result) symbolOffsets) (start .args .items .now) _ _
+          (omega (arith, carriers-below _ (start .pre .0))) (offset-bytes _ _ (start .pre .0) (count .symbols .ensures))
+          (omega (arith, few-symbols count)) (counted .before .before .before .before .level-counters .ensures)
+          (counted .count-symbols .ensures),
     )
 
 returns : tie.Need-returns
@@ -74,9 +77,10 @@ returns c =
     let start = count .before .before in
     as-band (λ N C os. c .decide-counters .result ≡ tabulate 256 (decided N (rides (laneBit C os)) (start .args .items .now)))
     (start .args .band) (count .symbols .result) (size .result) (start .pre .0) (count .symbols .ensures) (size .ensures)
-    (ring-decides (size .result) (take (count .symbols .result) symbolOffsets) (start .args .items .now) _ _ (omega (arith, carriers-below _ (start .pre .0)))
-    (offset-bytes _ _ (start .pre .0) (count .symbols .ensures)) (omega (arith, few-symbols count))
-    (counted .before .before .before .before .level-counters .ensures) (counted .count-symbols .ensures) _ (c .decide-counters .ensures))
+    (ring-decides (size .result) (take (count .symbols .result) symbolOffsets) (start .args .items .now) _ _
+    (omega (arith, carriers-below _ (start .pre .0))) (offset-bytes _ _ (start .pre .0) (count .symbols .ensures))
+    (omega (arith, few-symbols count)) (counted .before .before .before .before .level-counters .ensures)
+    (counted .count-symbols .ensures) _ (c .decide-counters .ensures))
 
 pub decide-spec : {M : Type 1} → statement M
 decide-spec =

@@ -25,7 +25,8 @@ returns c =
     let paired = decided .before .before .before .before in
     let summed = paired .before .before in
     let start = summed .before .before in
-    pairs-decide (start .args .counters .now) _ _ _ (start .pre .0) (start .pre .1) (summed .turn-sums .ensures) (paired .pairs .ensures)
+    pairs-decide (start .args .counters .now) _ _ _ (start .pre .0) (start .pre .1)
+    (summed .turn-sums .ensures) (paired .pairs .ensures)
     (decided .decide-pairs .ensures)
 
 pub decide-counters-spec : {M : Type 1} → statement M

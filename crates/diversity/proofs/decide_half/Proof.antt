@@ -14,8 +14,8 @@ use Rattle.diversity.proofs.decide_half.Tie as tie
 
 abbrev Inv-loop : tie.InvT-loop
 Inv-loop first both bits₀ i q b₀ bits b =
-    (b ≤ 128) × (i ≡ (first + 0) % 256) × (q ≡ (first + 0 + 128) % 256) × (bits ≡ written b (λ b. majority 96 (pairSum both (first + b))) bits₀)
-    × (length bits ≡ length bits₀)
+    (b ≤ 128) × (i ≡ (first + 0) % 256) × (q ≡ (first + 0 + 128) % 256)
+    × (bits ≡ written b (λ b. majority 96 (pairSum both (first + b))) bits₀) × (length bits ≡ length bits₀)
 
 abbrev μ-loop : tie.MeasureT-loop
 μ-loop first both bits₀ i q b₀ bits b = 128 - b
@@ -70,7 +70,9 @@ loop-again c =
     let turn = c .before .before .before in
     let at = turn .before .loop in
     let start = turn .before .before .before .before .before in
-    let sum = pair-sum (start .args .both .now) (start .args .first) (at .b) _ _ (start .pre .0) (start .pre .1) (turn .loop-test .taken) (at .inv .1) (at .inv .2) in (
+    let sum =
+    pair-sum (start .args .both .now) (start .args .first) (at .b) _ _ (start .pre .0) (start .pre .1) (turn .loop-test .taken)
+    (at .inv .1) (at .inv .2) in (
       search needs,
       search needs,
       search needs,

@@ -27,7 +27,8 @@ returns c =
     let second = c .before .before in
     let first = second .before .before .before .before in
     let start = first .before .before .before in
-    all-bits (start .args .both .now) (start .args .bits .now) _ _ (start .pre) (first .decide-half .ensures) (second .decide-half2 .ensures)
+    all-bits (start .args .both .now) (start .args .bits .now) _ _ (start .pre)
+    (first .decide-half .ensures) (second .decide-half2 .ensures)
 
 pub decide-pairs-spec : {M : Type 1} → statement M
 decide-pairs-spec =

@@ -32,8 +32,8 @@ returns c =
     let second = again .before .before .before .before in
     let first = second .before .before .before .before in
     let start = first .before .before .before .before in
-    ring-filled (start .args .coded .now) (start .args .ring .now) _ _ _ (start .pre .1) (first .half-turn .ensures) (second .half-turn2 .ensures)
-    (again .repeat-turn .ensures)
+    ring-filled (start .args .coded .now) (start .args .ring .now) _ _ _ (start .pre .1)
+    (first .half-turn .ensures) (second .half-turn2 .ensures) (again .repeat-turn .ensures)
 
 pub fill-ring-spec : {M : Type 1} → statement M
 fill-ring-spec =

@@ -75,8 +75,8 @@ loop-again c =
       search needs,
       search needs,
       search needs,
-      place-written _ _ _ _ (start .args .coded .now) (start .args .ring .now) _ (start .pre .0) (turn .loop-test .taken) (omega arith)
-          (inv .3) (inv .1) (inv .2),
+      place-written _ _ _ _ (start .args .coded .now) (start .args .ring .now) _ (start .pre .0) (turn .loop-test .taken)
+          (omega arith) (inv .3) (inv .1) (inv .2),
       simp length-set (inv .4),
     )
 

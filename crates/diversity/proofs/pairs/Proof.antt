@@ -10,7 +10,8 @@ use Rattle.diversity.proofs.pairs.Statement.{statement}
 use Rattle.diversity.proofs.pairs.Tie as tie
 
 abbrev Inv-loop : tie.InvT-loop
-Inv-loop sums both₀ p₀ both p = (p ≤ 256) × (both ≡ written p (λ p. getD sums (2 * p) 0 + 256 * getD sums (2 * p + 1) 0) both₀) × (length both₀ ≡ 256)
+Inv-loop sums both₀ p₀ both p =
+    (p ≤ 256) × (both ≡ written p (λ p. getD sums (2 * p) 0 + 256 * getD sums (2 * p + 1) 0) both₀) × (length both₀ ≡ 256)
 
 abbrev μ-loop : tie.MeasureT-loop
 μ-loop sums both₀ p₀ both p = 256 - p

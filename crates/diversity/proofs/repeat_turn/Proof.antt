@@ -41,7 +41,8 @@ loop-again c =
     let ring = at .inv .2 in (
       search needs,
       search needs,
-      written-next _ _ _ _ _ ring (omega arith) (turn-next (at .q) (c .before .before .before .args .ring .now) _ (at .inv .0) ring),
+      written-next _ _ _ _ _ ring (omega arith)
+          (turn-next (at .q) (c .before .before .before .args .ring .now) _ (at .inv .0) ring),
       simp length-set (at .inv .3),
     )
 
