@@ -1,17 +1,18 @@
 -- The layouts of the table are sound and small. Assumes nothing.
 use mathlib.Core.Path.{_≡_, ap}
-use Prim.Native.Nat.{ℕ, zero, _+_, _*_, _/_, _<_, _≤_}
+use mathlib.Core.Bool.{false}
+use Prim.Native.Nat.{ℕ, zero, suc, _+_, _*_, _/_, _<_, _≤_}
 use native.Mathlib.Omega.{arith}
-use lib.Dec.{T, ltb, ltb→lt, leb, leb→le}
+use lib.Dec.{T, eqb, ltb, ltb→lt, leb, leb→le}
 use lib.ListN.{getD}
-use borrow.Author.Tests.{eqb-true}
+use borrow.Author.Tests.{eqb-true, eqb-false}
 use Rattle.bits.specs.Ranges.{allBelow}
 use Rattle.bits.proofs.NumberLaws.{lt-cases}
 use Rattle.bits.proofs.RangeLaws.{at-each, agree₂, under, under₂}
 use Rattle.card.specs.Modes.{blockBytes}
 use Rattle.interleaver.specs.declared.Layout.{Layout}
 use Rattle.interleaver.specs.Source.{codedOf, codedBits}
-use Rattle.interleaver.specs.Layouts.{Defined, Sound, Small, Near, offsets, steps, groups, leads, layoutOf}
+use Rattle.interleaver.specs.Layouts.{Defined, Sound, Small, Near, Paired, offsets, steps, groups, leads, layoutOf}
 
 module _ (kind rate : ℕ) (D : Defined kind rate) where
   -- its row of the table
@@ -47,16 +48,24 @@ module _ (kind rate : ℕ) (D : Defined kind rate) where
 pub near-of : (kind rate : ℕ) → Defined kind rate → Near (layoutOf kind rate)
 near-of kind rate D =
     record {
-      step-le = at-most (λ k r. getD steps (k + r) 0) tt tt;
-      offset-le = at-most (λ k r. getD offsets (k + r) 0) tt tt;
+      step-le = within (λ k r. getD steps (k + r) 0) tt tt;
+      offset-lt = within (λ k r. suc (getD offsets (k + r) 0)) tt tt;
     }
   where
-    at-most : (f : ℕ → ℕ → ℕ) → T (allBelow 5 (λ k. leb (f k 0) (blockBytes k * 2 / 1))) → T (leb (f 4 1) 130)
+    within : (f : ℕ → ℕ → ℕ) → T (allBelow 5 (λ k. leb (f k 0) (blockBytes k * 2 / 1))) → T (leb (f 4 1) 130)
         → f kind rate ≤ blockBytes kind * 2 / getD groups rate 0
-    at-most f t u =
+    within f t u =
         lt-cases rate 1
-        (λ h. let r : rate ≡ 0 = omega arith in rw r (leb→le (f kind 0) (blockBytes kind * 2 / 1) (at-each 5 (λ k. leb (f k 0) (blockBytes k * 2 / 1)) t kind (D .kind-lt))))
+        (λ h.
+        let r : rate ≡ 0 = omega arith in
+        rw r (leb→le (f kind 0) (blockBytes kind * 2 / 1) (at-each 5 (λ k. leb (f k 0) (blockBytes k * 2 / 1)) t kind (D .kind-lt))))
         (λ h. let r : rate ≡ 1 = omega arith in let k = D .high-rate r in rw (r, k) (leb→le (f 4 1) 130 u))
+
+pub paired-of : (kind rate : ℕ) → Defined kind rate → eqb rate 1 ≡ false → Paired (layoutOf kind rate)
+paired-of kind rate D t =
+    let apart = eqb-false rate 1 t in
+    let r : rate ≡ 0 = omega (arith, D .rate-lt) in
+    record { group-is = rw r; lead-is = rw r; in-passes = t }
 
 pub coded-is : (kind rate : ℕ) (L : Layout) → L ≡ layoutOf kind rate → codedOf L ≡ codedBits kind rate
 unfolding codedBits

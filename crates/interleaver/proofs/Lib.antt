@@ -8,3 +8,4 @@ pub mod WordLaws
 pub mod WalkLaws
 pub mod StreamLaws
 pub mod NibbleLaws
+pub mod PairLaws

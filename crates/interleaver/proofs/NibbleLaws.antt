@@ -2,13 +2,14 @@
 use mathlib.Core.Path.{_≡_, refl, sym, ap, _∙_}
 use mathlib.Core.Bool.{Bool, true, false, cond}
 use mathlib.Core.List.{List}
-use Prim.Native.Nat.{ℕ, zero, suc, _+_, _-_, _*_, _/_, _%_, _<_, _≤_}
+use Prim.Native.Nat.{ℕ, zero, _+_, _-_, _*_, _/_, _%_, _<_, _≤_}
 use native.Mathlib.Nat.{mul-le-mul-right, mul-div-cancel, add-right-cancel}
 use native.Mathlib.Omega.{arith}
 use lib.ListN.{length, getD}
 use Rattle.bits.specs.Permutations.{Permutes}
 use Rattle.interleaver.specs.declared.Layout.{Layout}
-use Rattle.interleaver.specs.Source.{nibbleBit, column, sourceOf, codedOf}
+use Rattle.interleaver.specs.Layouts.{layoutOf}
+use Rattle.interleaver.specs.Source.{nibbleBit, column, sourceOf, codedOf, codedBits, source}
 use Rattle.interleaver.specs.Stores.{byteOf, stored, target, origin, carried}
 use Rattle.interleaver.proofs.SourceLaws.{column-apart, column-source}
 use Rattle.interleaver.proofs.StoreLaws.{stored-none, stored-append, stored-ext, stored-reordered}
@@ -87,16 +88,18 @@ module _ (L : Layout) (back : Bool) (from : List ℕ) where
       (λ b h. ap (λ (y : ℕ). getD from (cond back (n * 4 + b) y) 0) (column-source L n b first height bits h))
       ∙ ap (λ (k : ℕ). stored k (λ i. target back (sourceOf L) (n * 4 + i)) (λ i. getD from (origin back (sourceOf L) (n * 4 + i)) 0) to) one
 
-  -- all nibbles
-  pub carried-all : (n : ℕ) (to now : List ℕ) → n ≡ L .rows + L .parity → now ≡ carried L back from 0 n to
-      → now ≡ stored (codedOf L) (target back (sourceOf L)) (λ i. getD from (origin back (sourceOf L) i) 0) to
-  unfolding carried
-  carried-all n to now e d =
-      let count : (n - 0) * 4 ≡ codedOf L = omega arith in
-      d
-      ∙ stored-ext ((n - 0) * 4) _ _ (target back (sourceOf L)) (λ i. getD from (origin back (sourceOf L) i) 0) to
-      (λ i b. ap (target back (sourceOf L)) (start i)) (λ i b. ap (λ (y : ℕ). getD from (origin back (sourceOf L) y) 0) (start i))
-      ∙ ap (λ (k : ℕ). stored k (target back (sourceOf L)) (λ i. getD from (origin back (sourceOf L) i) 0) to) count
-    where
-      start : (i : ℕ) → 0 * 4 + i ≡ i
-      start i = omega arith
+-- all nibbles of a block of a kind and rate, and the way that they were carried
+pub carried-all : (kind rate : ℕ) (back way : Bool) (from to now : List ℕ) (L : Layout) → L ≡ layoutOf kind rate → back ≡ way
+    → now ≡ carried L way from 0 (L .rows + L .parity) to
+    → now ≡ stored (codedBits kind rate) (target back (source kind rate)) (λ i. getD from (origin back (source kind rate) i) 0) to
+unfolding carried codedBits source
+carried-all kind rate back way from to now L e t d =
+    d
+    ∙ stored-ext ((L .rows + L .parity - 0) * 4) _ _ (target way (sourceOf L)) (λ i. getD from (origin way (sourceOf L) i) 0) to
+    (λ i b. ap (target way (sourceOf L)) (start i)) (λ i b. ap (λ (y : ℕ). getD from (origin way (sourceOf L) y) 0) (start i))
+    ∙ ap (λ (k : ℕ). stored k (target way (sourceOf L)) (λ i. getD from (origin way (sourceOf L) i) 0) to) (let z : (L .rows + L .parity - 0) * 4 ≡ codedOf L = omega arith in z)
+    ∙ ap (λ (K : Layout). stored (codedOf K) (target way (sourceOf K)) (λ i. getD from (origin way (sourceOf K) i) 0) to) e
+    ∙ ap (λ (b : Bool). stored (codedOf (layoutOf kind rate)) (target b (sourceOf (layoutOf kind rate))) (λ i. getD from (origin b (sourceOf (layoutOf kind rate)) i) 0) to) (sym t)
+  where
+    start : (i : ℕ) → 0 * 4 + i ≡ i
+    start i = omega arith

@@ -1,7 +1,7 @@
 -- The joined stream, nibble by nibble: how many data and parity nibbles come before it, and when the next parity nibble is due. Assumes nothing.
 use mathlib.Core.Path.{_≡_, refl, ap, _∙_}
 use mathlib.Core.Bool.{true, false, cond}
-use Prim.Native.Nat.{ℕ, zero, suc, _+_, _-_, _*_, _/_, _%_, _<_, _≤_}
+use Prim.Native.Nat.{ℕ, zero, _+_, _-_, _*_, _/_, _%_, _<_, _≤_}
 use native.Mathlib.Nat.{div-add-mod', add-mul, mul-add, mul-le-mul-right, zero-div, zero-mod, zero-mul}
 use native.Mathlib.Omega.{arith}
 use lib.Dec.{ltb}

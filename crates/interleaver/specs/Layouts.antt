@@ -1,7 +1,7 @@
 -- The numbers of the channel interleaver by kind and rate (Table 11 and 5.1.5.4.4 of source 000).
 -- Assumes nothing.
 use mathlib.Core.Path.{_≡_}
-use mathlib.Core.Bool.{true}
+use mathlib.Core.Bool.{true, false}
 use mathlib.Core.List.{List, [], _∷_}
 use Prim.Native.Nat.{ℕ, zero, _+_, _*_, _/_, _<_, _≤_}
 use lib.Dec.{eqb}
@@ -61,4 +61,10 @@ pub record Small (L : Layout) : Type 0 where
 -- A layout whose step and offset pass the end of its parity rows at most once.
 pub record Near (L : Layout) : Type 0 where
   pub step-le : L .step ≤ L .parity
-  pub offset-le : L .offset ≤ L .parity
+  pub offset-lt : L .offset < L .parity
+
+-- A layout of pairs, one data nibble and one parity nibble, both read in passes.
+pub record Paired (L : Layout) : Type 0 where
+  pub group-is : L .group ≡ 1
+  pub lead-is : L .lead ≡ 1
+  pub in-passes : L .continuous ≡ false

@@ -1,13 +1,13 @@
--- Where a walk over rows stands, and where the joined stream does. Assumes nothing.
+-- Where a pass stands, where the joined stream does, and where a run of pairs does. Assumes nothing.
 use mathlib.Core.Path.{_≡_}
-use mathlib.Core.Bool.{Bool, true, false, cond}
-use Prim.Native.Nat.{ℕ, _+_, _-_, _*_, _%_, _<_, _≤_}
+use mathlib.Core.Bool.{cond}
+use Prim.Native.Nat.{ℕ, _+_, _-_, _*_, _<_, _≤_}
 use lib.Dec.{ltb}
 use lib.ListN.{length}
 use Rattle.interleaver.specs.declared.Layout.{Layout}
-use Rattle.interleaver.specs.declared.Walk.{Walk}
 use Rattle.interleaver.specs.declared.Stand.{Stand}
-use Rattle.interleaver.specs.Rows.{passes}
+use Rattle.interleaver.specs.declared.Run.{Run}
+use Rattle.interleaver.specs.Rows.{passes, continuousRow}
 use Rattle.interleaver.specs.Source.{groupOf, placeIn}
 
 -- Place p of the passes is the `taken`-th of pass j, at this row, which may be the first past the end.
@@ -17,11 +17,6 @@ pub record OnPass (R step p j row : ℕ) : Type 0 where
   pub place-is : p ≡ length (passes R step j) + taken
   pub row-is : row ≡ j + taken * step
   pub row-near : row < R + step
-
--- A walk that stands at place p: of the walk without a restart, or of the passes.
-unfoldable pub Walks : Bool → ℕ → ℕ → ℕ → Walk → Type 0
-Walks true R step p w = (w .row ≡ p * step % R) × (w .pass ≡ 0)
-Walks false R step p w = (OnPass R step p (w .pass) (w .row)) × (p < R → (w .row < R) × (w .pass < step))
 
 -- how many parity nibbles come before nibble n, and how many data nibbles come from it on before the next parity nibble
 unfoldable pub parityPlace : Layout → ℕ → ℕ
@@ -34,4 +29,11 @@ untilParity L n = cond (ltb (L .lead) (placeIn L n)) (L .lead + (L .group + 1) -
 pub record Stands (L : Layout) (s : Stand) : Type 0 where
   pub within : s .nibble ≤ L .rows + L .parity
   pub left-is : s .left ≡ untilParity L (s .nibble)
-  pub walk-is : Walks (L .continuous) (L .parity) (L .step) (parityPlace L (s .nibble)) (record { row = s .row; pass = s .pass })
+  pub row-is : s .row ≡ continuousRow (L .parity) (L .step) (L .offset) (parityPlace L (s .nibble))
+
+-- A run of pairs stands here.
+pub record Runs (L : Layout) (s : Run) : Type 0 where
+  pub place : ℕ
+  pub nibble-is : s .nibble ≡ place * 2
+  pub pass-lt : s .pass < L .step
+  pub on-pass : OnPass (L .rows) (L .step) place (s .pass) (s .row)

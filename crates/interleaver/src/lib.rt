@@ -3,14 +3,14 @@
 //
 // Internal: nothing here is a public entry. A function with a `requires` is called only where its caller has shown it.
 ghost use mathlib.Core.Path.{_≡_};
-ghost use mathlib.Core.Bool.{cond};
+ghost use mathlib.Core.Bool.{true, false, cond};
 ghost use Prim.Native.Nat.{ℕ, _+_, _-_, _*_, _%_, _<_, _≤_};
 ghost use lib.ListN.{length, getD};
 ghost use Rattle.bits.specs.Lists.{written};
 ghost use Rattle.interleaver.specs.Rows.{passes, movedRow};
-ghost use Rattle.interleaver.specs.Layouts.{Defined, Sound, Small, Near, layoutOf};
+ghost use Rattle.interleaver.specs.Layouts.{Defined, Sound, Small, Near, Paired, layoutOf};
 ghost use Rattle.interleaver.specs.Source.{isParity, dataPlace, column, codedOf, codedBits, source, codedAt};
-ghost use Rattle.interleaver.specs.Walks.{Walks, Stands};
+ghost use Rattle.interleaver.specs.Walks.{Stands, Runs};
 ghost use Rattle.interleaver.specs.Stores.{byteOf, stored, target, origin, carried};
 
 // The numbers of the interleaver at one kind and rate.
@@ -28,16 +28,16 @@ pub struct Layout {
     pub continuous: bool,
 }
 
-// A walk over rows: the row that it stands at, and the pass that it is in.
-struct Walk {
-    row: usize,
-    pass: usize,
-}
-
-// Where the joined stream stands: its next nibble, how many data nibbles come before its next parity nibble, and the walk over the parity rows.
+// Where the joined stream stands: its next nibble, how many data nibbles come before its next parity nibble, and that nibble's row.
 struct Stand {
     nibble: usize,
     left: usize,
+    row: usize,
+}
+
+// Where a run of pairs stands: its next nibble, that nibble's row, and the pass.
+struct Run {
+    nibble: usize,
     row: usize,
     pass: usize,
 }
@@ -55,7 +55,7 @@ const LEADS: [usize; 2] = [1, 3];
 // The layout of a kind and rate.
 fn layout_of(kind: usize, rate: usize) -> Layout
     requires { ⌜ Defined kind rate ⌝ }
-    ensures { λ r. ⌜ (r ≡ layoutOf kind rate) × (Sound r) × (Small r) × (Near r) ⌝ }
+    ensures { λ r. ⌜ (r ≡ layoutOf kind rate) × (Sound r) × (Small r) × (Near r) × (r .continuous ≡ false → Paired r) ⌝ }
 {
     let rows = card::block_bytes(kind) * 2;
     let group = GROUPS[rate];
@@ -68,25 +68,6 @@ fn layout_of(kind: usize, rate: usize) -> Layout
         lead: LEADS[rate],
         continuous: rate == 1,
     }
-}
-
-// The walk at its next place.
-fn walk_on(continuous: bool, rows: usize, step: usize, at: Walk) -> Walk
-    requires { ⌜ (at .row < rows) × (at .pass < 65536) × (0 < step) × (step ≤ rows) × (rows < 65536) ⌝ }
-    ensures { λ r. ⌜ ((p : ℕ) → Walks continuous rows step p at → p < rows → Walks continuous rows step (p + 1) r) ⌝ }
-{
-    let row = at.row + step;
-    if row < rows {
-        return Walk { row, pass: at.pass };
-    }
-    if continuous {
-        return Walk {
-            row: row - rows,
-            pass: at.pass,
-        };
-    }
-    let pass = at.pass + 1;
-    Walk { row: pass, pass }
 }
 
 // A row moved up by the offset.
@@ -162,7 +143,7 @@ fn move_nibble(n: usize, first: usize, height: usize, back: bool, from: &[u8], t
 
 // The parity nibble that the joined stream stands at, if it stands at one, and where the stream stands after it.
 fn move_parity(l: Layout, at: Stand, back: bool, from: &[u8], to: &mut [u8]) -> Stand
-    requires { ⌜ (Sound l) × (Small l) × (Near l) × (Stands l at) × (at .nibble < l .rows + l .parity)
+    requires { ⌜ (Sound l) × (Small l) × (Near l) × (l .continuous ≡ true) × (Stands l at) × (at .nibble < l .rows + l .parity)
         × (length (now from) ≡ codedOf l) × (codedOf l ≤ length (now to)) ⌝ }
     ensures stands { λ r. ⌜ (r .nibble ≡ at .nibble + cond (isParity l (at .nibble)) 1 0) × (Stands l r) × (0 < r .left) ⌝ }
     ensures moved { λ r. ⌜ now (to .exit) ≡ carried l back (now (from .entry)) (at .nibble) (r .nibble) (now (to .entry)) ⌝ }
@@ -170,28 +151,17 @@ fn move_parity(l: Layout, at: Stand, back: bool, from: &[u8], to: &mut [u8]) -> 
     if 0 < at.left {
         return at;
     }
-    let row = moved_row(l.parity, l.offset, at.row);
-    move_nibble(at.nibble, l.rows * 4 + row, l.parity, back, from, to);
-    let next = walk_on(
-        l.continuous,
-        l.parity,
-        l.step,
-        Walk {
-            row: at.row,
-            pass: at.pass,
-        },
-    );
+    move_nibble(at.nibble, l.rows * 4 + at.row, l.parity, back, from, to);
     Stand {
         nibble: at.nibble + 1,
         left: l.group,
-        row: next.row,
-        pass: next.pass,
+        row: moved_row(l.parity, l.step, at.row),
     }
 }
 
 // The data nibbles of a pass, and the parity nibbles before each of them.
 fn move_pass(l: Layout, pass: usize, start: Stand, back: bool, from: &[u8], to: &mut [u8]) -> Stand
-    requires { ⌜ (Sound l) × (Small l) × (Near l) × (Stands l start) × (pass < l .step)
+    requires { ⌜ (Sound l) × (Small l) × (Near l) × (l .continuous ≡ true) × (Stands l start) × (pass < l .step)
         × (dataPlace l (start .nibble) ≡ length (passes (l .rows) (l .step) pass))
         × (length (now from) ≡ codedOf l) × (codedOf l ≤ length (now to)) ⌝ }
     ensures stands { λ r. ⌜ (start .nibble ≤ r .nibble) × (Stands l r) × (dataPlace l (r .nibble) ≡ length (passes (l .rows) (l .step) (pass + 1))) ⌝ }
@@ -206,25 +176,21 @@ fn move_pass(l: Layout, pass: usize, start: Stand, back: bool, from: &[u8], to: 
             nibble: data.nibble + 1,
             left: data.left - 1,
             row: data.row,
-            pass: data.pass,
         };
         row += l.step;
     }
     at
 }
 
-// All bits of a block, from source bits to coded bits or back.
-fn move_bits(kind: usize, rate: usize, back: bool, from: &[u8], to: &mut [u8])
-    requires { ⌜ (Defined kind rate) × (length (now from) ≡ codedBits kind rate) × (codedBits kind rate ≤ length (now to)) ⌝ }
-    ensures { λ _. ⌜ now (to .exit) ≡ stored (codedBits kind rate) (target back (source kind rate))
-        (λ i. getD (now (from .entry)) (origin back (source kind rate) i) 0) (now (to .entry)) ⌝ }
+// All nibbles of a layout whose parity rows are read on without a restart.
+fn move_groups(l: Layout, back: bool, from: &[u8], to: &mut [u8])
+    requires { ⌜ (Sound l) × (Small l) × (Near l) × (l .continuous ≡ true) × (length (now from) ≡ codedOf l) × (codedOf l ≤ length (now to)) ⌝ }
+    ensures { λ _. ⌜ now (to .exit) ≡ carried l back (now (from .entry)) 0 (l .rows + l .parity) (now (to .entry)) ⌝ }
 {
-    let l = layout_of(kind, rate);
     let mut at = Stand {
         nibble: 0,
         left: l.lead,
-        row: 0,
-        pass: 0,
+        row: l.offset,
     };
     let mut pass: usize = 0;
     while pass < l.step {
@@ -233,6 +199,73 @@ fn move_bits(kind: usize, rate: usize, back: bool, from: &[u8], to: &mut [u8])
     }
     if at.nibble < l.rows + l.parity {
         move_parity(l, at, back, from, to);
+    }
+}
+
+// Pairs of a pass, as long as the row is below `end`: the pair's parity row stands `apart` after its data row.
+fn move_run(
+    l: Layout,
+    start: Run,
+    end: usize,
+    apart: usize,
+    back: bool,
+    from: &[u8],
+    to: &mut [u8],
+) -> Run
+    requires { ⌜ (Sound l) × (Small l) × (Paired l) × (Runs l start) × (end ≤ l .rows)
+        × ((row : ℕ) → start .row ≤ row → row < end → apart + row ≡ l .rows * 4 + movedRow (l .rows) (l .offset) row)
+        × (length (now from) ≡ codedOf l) × (codedOf l ≤ length (now to)) ⌝ }
+    ensures stands { λ r. ⌜ (start .nibble ≤ r .nibble) × (Runs l r) × (r .pass ≡ start .pass) × (end ≤ r .row) ⌝ }
+    ensures moved { λ r. ⌜ now (to .exit) ≡ carried l back (now (from .entry)) (start .nibble) (r .nibble) (now (to .entry)) ⌝ }
+{
+    let pass = start.pass;
+    let mut nibble = start.nibble;
+    let mut row = start.row;
+    while row < end {
+        move_nibble(nibble, row, l.rows, back, from, to);
+        move_nibble(nibble + 1, apart + row, l.rows, back, from, to);
+        nibble += 2;
+        row += l.step;
+    }
+    Run { nibble, row, pass }
+}
+
+// All nibbles of a layout of pairs. A pass's parity rows pass the end once.
+fn move_pairs(l: Layout, back: bool, from: &[u8], to: &mut [u8])
+    requires { ⌜ (Sound l) × (Small l) × (Near l) × (Paired l) × (length (now from) ≡ codedOf l) × (codedOf l ≤ length (now to)) ⌝ }
+    ensures { λ _. ⌜ now (to .exit) ≡ carried l back (now (from .entry)) 0 (l .rows + l .parity) (now (to .entry)) ⌝ }
+{
+    let bend = l.rows - l.offset;
+    let before = l.rows * 4 + l.offset;
+    let after = l.rows * 3 + l.offset;
+    let mut nibble: usize = 0;
+    let mut pass: usize = 0;
+    while pass < l.step {
+        let start = Run {
+            nibble,
+            row: pass,
+            pass,
+        };
+        let past = move_run(l, start, bend, before, back, from, to);
+        let last = move_run(l, past, l.rows, after, back, from, to);
+        nibble = last.nibble;
+        pass += 1;
+    }
+}
+
+// All bits of a block, from source bits to coded bits or back. Of the pairs each direction is a call of its own, so that no nibble tests it.
+fn move_bits(kind: usize, rate: usize, back: bool, from: &[u8], to: &mut [u8])
+    requires { ⌜ (Defined kind rate) × (length (now from) ≡ codedBits kind rate) × (codedBits kind rate ≤ length (now to)) ⌝ }
+    ensures { λ _. ⌜ now (to .exit) ≡ stored (codedBits kind rate) (target back (source kind rate))
+        (λ i. getD (now (from .entry)) (origin back (source kind rate) i) 0) (now (to .entry)) ⌝ }
+{
+    let l = layout_of(kind, rate);
+    if l.continuous {
+        move_groups(l, back, from, to);
+    } else if back {
+        move_pairs(l, true, from, to);
+    } else {
+        move_pairs(l, false, from, to);
     }
 }
 

@@ -5,8 +5,8 @@ use native.Mathlib.Omega.{arith}
 use lib.Dec.{eqb}
 use lib.ListN.{getD}
 use Rattle.interleaver.specs.declared.Layout.{Layout}
-use Rattle.interleaver.specs.Layouts.{Sound, Small, Near, layoutOf, offsets, steps, groups, leads}
-use Rattle.interleaver.proofs.LayoutLaws.{group-in, rows-in, sound-of, small-of, near-of}
+use Rattle.interleaver.specs.Layouts.{Sound, Small, Near, Paired, layoutOf, offsets, steps, groups, leads}
+use Rattle.interleaver.proofs.LayoutLaws.{group-in, rows-in, sound-of, small-of, near-of, paired-of}
 use borrow.Author.Needs.{needs}
 use Rattle.interleaver.proofs.layout_of.Statement.{statement}
 use Rattle.interleaver.proofs.layout_of.Tie as tie
@@ -66,7 +66,7 @@ returns c =
       continuous = eqb rate 1;
     })
     (c .block-bytes .ensures) in
-    (e, subst Sound (sym e) (sound-of kind rate (c .before .pre)), subst Small (sym e) (small-of kind rate (c .before .pre)), subst Near (sym e) (near-of kind rate (c .before .pre)))
+    (e, subst Sound (sym e) (sound-of kind rate (c .before .pre)), subst Small (sym e) (small-of kind rate (c .before .pre)), subst Near (sym e) (near-of kind rate (c .before .pre)), λ t. subst Paired (sym e) (paired-of kind rate (c .before .pre) t))
 
 pub layout-of-spec : {M : Type 1} → statement M
 layout-of-spec =

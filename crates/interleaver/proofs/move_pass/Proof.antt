@@ -1,6 +1,6 @@
 -- `interleaver::move_pass` meets its contract. The invariant: the stream's next data nibble is at this row of the pass, and the nibbles
 -- before it are carried. Assumes nothing.
-use mathlib.Core.Path.{_≡_, refl, sym, ap, _∙_}
+use mathlib.Core.Path.{_≡_, refl, ap, _∙_}
 use mathlib.Core.Bool.{false}
 use Prim.Native.Nat.{ℕ, _+_, _-_, _*_, _<_, _≤_}
 use native.Mathlib.Omega.{arith}
@@ -29,8 +29,8 @@ loop-holds : tie.Need-loop-holds Inv-loop μ-loop
 loop-holds c =
     let s = c .before .before in
     let l = s .args .l in (
-      rw (s .pre .5) (on-start (l .rows) (l .step) (s .pre .0 .step-pos) (s .args .pass) (omega arith) (omega arith)),
-      s .pre .3,
+      rw (s .pre .6) (on-start (l .rows) (l .step) (s .pre .0 .step-pos) (s .args .pass) (omega arith) (omega arith)),
+      s .pre .4,
       omega arith,
       refl,
       carried-none l (s .args .back) (now (s .args .from)) (s .args .start .nibble) (now (s .args .to)),
@@ -47,14 +47,14 @@ row-of c =
     let s = entry c in
     let l = s .args .l in
     let i = c .before .before .loop in
-    row-at (l .rows) (l .step) (s .pre .0 .step-pos) (dataPlace l (i .at .nibble)) (s .args .pass) (i .row) (i .inv .0) (s .pre .4) (c .if1 .taken)
+    row-at (l .rows) (l .step) (s .pre .0 .step-pos) (dataPlace l (i .at .nibble)) (s .args .pass) (i .row) (i .inv .0) (s .pre .5) (c .if1 .taken)
 
 move-parity-requires : tie.Need-move-parity-requires Inv-loop μ-loop
 move-parity-requires c κs =
     let s = entry (c .before) in
     let l = s .args .l in
     let i = c .before .before .before .loop in
-    (s .pre .0, s .pre .1, s .pre .2, i .inv .1, stream-on l (s .pre .0) (i .at .nibble) (row-of (c .before) .1), s .pre .6, omega (arith, s .pre .7, i .inv .3))
+    (s .pre .0, s .pre .1, s .pre .2, s .pre .3, i .inv .1, stream-on l (s .pre .0) (i .at .nibble) (row-of (c .before) .1), s .pre .7, omega (arith, s .pre .8, i .inv .3))
 
 abbrev turn : tie.After-move-parity Inv-loop μ-loop → tie.Then1 Inv-loop μ-loop
 turn c = c .before .before
@@ -80,9 +80,9 @@ move-nibble-requires c κs =
     let s = entry (turn m) in
     let n = data-of m .2 in
     let room : codedOf (s .args .l) ≤ length (m .move-parity .last .1 .1 .1 .1 .0) =
-    omega (arith, s .pre .7, turn m .before .before .loop .inv .3, m .move-parity .kept .1 .1 .1 .1 .0) in
+    omega (arith, s .pre .8, turn m .before .before .loop .inv .3, m .move-parity .kept .1 .1 .1 .1 .0) in
     let row = turn m .if1 .taken in
-    (omega arith, omega (arith, s .pre .6), omega arith, omega (arith, s .pre .6), omega arith)
+    (omega arith, omega (arith, s .pre .7), omega arith, omega (arith, s .pre .7), omega arith)
 
 add-t16 : tie.Need-add-t16 Inv-loop μ-loop
 add-t16 c =
@@ -125,7 +125,7 @@ loop-again c =
       record {
         within = omega arith;
         left-is = omega (arith, left, d .ensures .0 .1 .left-is);
-        walk-is = rw parity (d .ensures .0 .1 .walk-is);
+        row-is = rw parity (d .ensures .0 .1 .row-is);
       },
       omega (arith, i .inv .2),
       x .kept .1 .1 .1 .1 .1 .0 ∙ d .kept .1 .1 .1 .1 .0 ∙ i .inv .3,
@@ -145,7 +145,7 @@ returns c =
       (
         i .inv .2,
         i .inv .1,
-        pass-end (l .rows) (l .step) (s .pre .0 .step-pos) (dataPlace l (i .at .nibble)) (s .args .pass) (i .row) (i .inv .0) (s .pre .4) (c .if1 .left),
+        pass-end (l .rows) (l .step) (s .pre .0 .step-pos) (dataPlace l (i .at .nibble)) (s .args .pass) (i .row) (i .inv .0) (s .pre .5) (c .if1 .left),
       ),
       i .inv .4,
     )
