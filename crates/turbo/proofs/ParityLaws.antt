@@ -6,22 +6,23 @@ use Prim.Native.Nat.{ℕ, zero, suc, _+_, _-_, _*_, _/_, _%_, _^_, _≤_, _<_}
 use native.Mathlib.Numerals.{add-one}
 use native.Mathlib.Omega.{arith}
 use lib.Dec.{eqb, lit<}
-use lib.ListN.{length, getD, set}
+use lib.ListN.{length, getD, set, take, length-take}
+use lib.Seq.{getD-take}
 use Rattle.bits.specs.Bits.{bitOf, pack, byteOf, bytesOf}
 use Rattle.bits.specs.Lists.{written}
 use Rattle.bits.specs.Sums.{count}
-use Rattle.bits.proofs.ListLaws.{getD-tabulate, length-written, getD-written, written-two}
+use Rattle.bits.proofs.ListLaws.{getD-tabulate, length-written, getD-written, written-two, written-ext}
 use Rattle.bits.proofs.BitLaws.{bits-bytes}
 use Rattle.card.specs.Modes.{blockBytes}
 use Rattle.turbo.specs.Pairs.{pairCount, pairAt}
 use Rattle.turbo.specs.Encoder.{next, parity, stateAt, startOf, ringStart, parityAt}
 use Rattle.turbo.specs.Interleave.{place, exchangedAt, interleavedBy, interleaved}
-use Rattle.turbo.specs.Puncture.{kept, keptTime, keptCount}
+use Rattle.turbo.specs.Puncture.{row, kept, keptTime, keptCount}
 use Rattle.turbo.specs.Bytes.{fourFrom}
 use Rattle.turbo.specs.Parity.{inputOf, keptBit, bothBits, punctured, Inputs}
 use Rattle.turbo.proofs.RingLaws.{state-lt, state-ext, parity-lt, parity-ext}
 use Rattle.turbo.proofs.InterleaveLaws.{place-permutes}
-use Rattle.turbo.proofs.PunctureLaws.{kept-time, time-lt}
+use Rattle.turbo.proofs.PunctureLaws.{kept-time, time-lt, all-count, all-time}
 use Rattle.turbo.proofs.StepLaws.{pair-lt, pair-read, four-read}
 use Rattle.turbo.proofs.ByteLaws.{stateBy, parityBy}
 
@@ -156,6 +157,26 @@ module _ (kind rate : ℕ) (b : ℕ → ℕ) (t : ℕ) (h : t < pairCount kind) 
       let first : v ≡ punctured kind rate b n = hv ∙ ap b y ∙ sym (kept-here 0 (lit< tt)) ∙ ap (punctured kind rate b) (sym z) in
       let second : w ≡ punctured kind rate b (n + 1) = hw ∙ sym (kept-here 1 (lit< tt)) ∙ ap (λ (m : ℕ). punctured kind rate b (m + 1)) (sym e) in
       written-two n v w (punctured kind rate b) out now f (omega arith) first second
+
+-- where all are kept they stay as they are
+punctured-all : (kind rate : ℕ) (b : ℕ → ℕ) → row rate ≡ 65535 → (i : ℕ) → i < 8 * blockBytes kind → b i ≡ punctured kind rate b i
+unfolding punctured
+punctured-all kind rate b e i h =
+    let z : 2 * (i / 2) + i % 2 ≡ i = omega arith in
+    ap b (sym z ∙ ap (λ (t : ℕ). 2 * t + i % 2) (sym (all-time kind rate e (i / 2) (omega arith))))
+
+pub unpacked-all : (kind rate n : ℕ) (packed out last : List ℕ) → row rate ≡ 65535 → n ≡ blockBytes kind → n ≤ length packed
+    → last ≡ written (8 * length (take n packed)) (bitOf (take n packed)) out → last ≡ written (keptCount kind rate) (punctured kind rate (bitOf packed)) out
+unfolding bitOf
+unpacked-all kind rate n packed out last e q h f =
+    let l : length (take n packed) ≡ n = simp length-take (omega arith) in
+    let m : 8 * length (take n packed) ≡ keptCount kind rate = omega (arith, all-count kind rate e) in
+    f
+    ∙ written-ext (8 * length (take n packed)) (bitOf (take n packed)) (punctured kind rate (bitOf packed)) out
+    (λ i b.
+    let k : i / 8 < n = omega arith in
+    ap (λ (x : ℕ). x / 2 ^ (7 - i % 8) % 2) (getD-take n packed (i / 8) 0 k) ∙ punctured-all kind rate (bitOf packed) e i (omega arith))
+    ∙ ap (λ (k : ℕ). written k (punctured kind rate (bitOf packed)) out) m
 
 -- the kept ones of both encoders' parity bits
 pub punctured-kept : (kind rate taps : ℕ) (d b : ℕ → ℕ) → ((i : ℕ) → i < 8 * blockBytes kind → b i ≡ bothBits kind taps d i)

@@ -1,11 +1,12 @@
 -- What puncturing keeps, and the order of the kept times. Assumes nothing.
-use mathlib.Core.Path.{_≡_, sym, ap, _∙_}
+use mathlib.Core.Path.{_≡_, refl, sym, ap, _∙_}
 use mathlib.Core.Bool.{true, _||_}
-use Prim.Native.Nat.{ℕ, _+_, _*_, _/_, _%_, _≤_, _<_}
+use Prim.Native.Nat.{ℕ, zero, suc, _+_, _-_, _*_, _/_, _%_, _≤_, _<_}
 use native.Mathlib.Nat.{mod-lt}
 use native.Mathlib.Omega.{arith}
 use lib.Count.{ones, onesIn}
 use lib.Dec.{eqb, lit<}
+use Rattle.bits.specs.Bits.{bitAt}
 use Rattle.bits.specs.Sums.{sum, count}
 use Rattle.bits.proofs.RangeLaws.{agree₂, agree-tests}
 use Rattle.bits.proofs.SumLaws.{count-le, count-lt, lowest-nth, nth}
@@ -64,3 +65,22 @@ kept-room kind rate t h e = omega (arith, count-lt t (pairCount kind) (kept rate
 pub kept-le : (kind rate : ℕ) → keptCount kind rate ≤ 2 * pairCount kind
 unfolding keptCount
 kept-le kind rate = omega (arith, count-le (pairCount kind) (kept rate))
+
+-- ---- a row of ones
+
+module _ (kind rate : ℕ) (e : row rate ≡ 65535) where
+  all-kept : (t : ℕ) → kept rate t ≡ true
+  unfolding kept
+  all-kept t = rw e (agree-tests 16 (λ r. eqb (bitAt (15 - r) 65535) 1) (λ r. true) tt (t % 16) (mod-lt t (lit< tt)))
+
+  all-counted : (t : ℕ) → count t (kept rate) ≡ t
+  unfolding count sum
+  all-counted zero = refl
+  all-counted (suc t) = rw (all-kept t, all-counted t) (omega arith)
+
+  pub all-count : keptCount kind rate ≡ 2 * pairCount kind
+  unfolding keptCount
+  all-count = ap (_*_ 2) (all-counted (pairCount kind))
+
+  pub all-time : (t : ℕ) → t < pairCount kind → keptTime kind rate t ≡ t
+  all-time t h = ap (keptTime kind rate) (sym (all-counted t)) ∙ kept-time kind rate t h (all-kept t)

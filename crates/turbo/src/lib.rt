@@ -17,7 +17,7 @@ ghost use Rattle.turbo.specs.Encoder.{next, parity, startOf};
 ghost use Rattle.turbo.specs.Bytes.{pairIn, fourFrom, byteWord, Doubling, ByBytes, ByStates};
 ghost use Rattle.turbo.specs.Interleave.{starts, exchanged};
 ghost use Rattle.turbo.specs.Gather.{twice, placeIn, picked, byRows, exchangedByte, SumsFit, StartsBelow, Gathering, Interleaving};
-ghost use Rattle.turbo.specs.Puncture.{kept, keptCount};
+ghost use Rattle.turbo.specs.Puncture.{row, kept, keptCount};
 ghost use Rattle.turbo.specs.Parity.{inputOf, keptBit, bothBits, punctured, Inputs, Started};
 
 // The tables S of all kinds, one after the other, and where each starts and ends.
@@ -315,6 +315,14 @@ fn is_kept(rate: usize, t: usize) -> bool
     (row >> (15 - t % 16)) % 2 == 1
 }
 
+// Whether the parity bits of every time are kept.
+fn keeps_all(rate: usize) -> bool
+    requires { ⌜ rate < 2 ⌝ }
+    ensures { λ r. ⌜ r ≡ eqb (row rate) 65535 ⌝ }
+{
+    KEPT[rate] == 65535
+}
+
 // How many parity bits of a block are kept.
 pub fn kept_count(kind: usize, rate: usize) -> usize
     requires { ⌜ (kind < 5) × (rate < 2) ⌝ }
@@ -468,7 +476,7 @@ fn pack_parity(
 }
 
 // The kept of the parity bits of both encoders, at the start of `out`.
-fn puncture(kind: usize, rate: usize, packed: &[u8], out: &mut [u8])
+fn keep(kind: usize, rate: usize, packed: &[u8], out: &mut [u8])
     requires { ⌜ (kind < 5) × (rate < 2) × (blockBytes kind ≤ length (now packed)) × (keptCount kind rate ≤ length (now out)) ⌝ }
     ensures { λ _. ⌜ now (out .exit) ≡ written (keptCount kind rate) (punctured kind rate (bitOf (now (packed .entry)))) (now (out .entry)) ⌝ }
 {
@@ -482,6 +490,19 @@ fn puncture(kind: usize, rate: usize, packed: &[u8], out: &mut [u8])
             n += 2;
         }
         t += 1;
+    }
+}
+
+// The same, where a rate that keeps all needs no test.
+fn puncture(kind: usize, rate: usize, packed: &[u8], out: &mut [u8])
+    requires { ⌜ (kind < 5) × (rate < 2) × (blockBytes kind ≤ length (now packed)) × (keptCount kind rate ≤ length (now out)) ⌝ }
+    ensures { λ _. ⌜ now (out .exit) ≡ written (keptCount kind rate) (punctured kind rate (bitOf (now (packed .entry)))) (now (out .entry)) ⌝ }
+{
+    let n = card::block_bytes(kind);
+    if keeps_all(rate) {
+        bits::unpack(&packed[..n], out);
+    } else {
+        keep(kind, rate, packed, out);
     }
 }
 
