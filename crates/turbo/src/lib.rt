@@ -598,17 +598,64 @@ fn parity_bytes(kind: usize, taps: u16, bytes: &[u8], second: &[u8], out: &mut [
     pack_parity(kind, rows, &table, from, bytes, second, out);
 }
 
-// The kept parity bits of a block, at the start of `out`. Of the taps the low eleven bits count.
+// The kept parity bits of a block, at the start of `out`, with room for what is made on the way: the block's pairs twice, the bytes that
+// encoder 2 reads, and the parity bits before puncturing.
+fn encode_in(
+    kind: usize,
+    rate: usize,
+    taps: u16,
+    bytes: &[u8],
+    list: &mut [u8],
+    second: &mut [u8],
+    packed: &mut [u8],
+    out: &mut [u8],
+)
+    requires { ⌜ (kind < 5) × (rate < 2) × (length (now bytes) ≡ blockBytes kind) × (keptCount kind rate ≤ length (now out)) ⌝ }
+    requires { ⌜ (8 * blockBytes kind ≤ length (now list)) × (blockBytes kind ≤ length (now second)) × (blockBytes kind ≤ length (now packed)) ⌝ }
+    ensures { λ _. ⌜ now (list .exit) ≡ written (8 * length (now (bytes .entry))) (twice (4 * length (now (bytes .entry))) (pairAt (bitOf (now (bytes .entry))))) (now (list .entry)) ⌝ }
+    ensures { λ _. ⌜ now (second .exit) ≡ written (blockBytes kind) (fourFrom (inputOf kind (bitOf (now (bytes .entry))) 1)) (now (second .entry)) ⌝ }
+    ensures { λ _. ⌜ now (packed .exit) ≡ written (blockBytes kind) (byteOf (bothBits kind taps (bitOf (now (bytes .entry))))) (now (packed .entry)) ⌝ }
+    ensures { λ _. ⌜ now (out .exit) ≡ written (keptCount kind rate) (keptBit kind rate taps (bitOf (now (bytes .entry)))) (now (out .entry)) ⌝ }
+{
+    second_bytes(kind, bytes, list, second);
+    parity_bytes(kind, taps, bytes, second, packed);
+    puncture(kind, rate, packed, out);
+}
+
+// The kept parity bits of a block, at the start of `out`. Of the taps the low eleven bits count. Frame control's short block takes no long arrays.
 pub fn encode(kind: usize, rate: usize, taps: u16, bytes: &[u8], out: &mut [u8])
     requires { ⌜ (kind < 5) × (rate < 2) × (length (now bytes) ≡ blockBytes kind) × (keptCount kind rate ≤ length (now out)) ⌝ }
     ensures { λ _. ⌜ now (out .exit) ≡ written (keptCount kind rate) (keptBit kind rate taps (bitOf (now (bytes .entry)))) (now (out .entry)) ⌝ }
 {
-    let mut list = [0u8; 4160];
-    let mut second = [0u8; 520];
-    let mut packed = [0u8; 520];
-    second_bytes(kind, bytes, &mut list, &mut second);
-    parity_bytes(kind, taps, bytes, &second, &mut packed);
-    puncture(kind, rate, &packed, out);
+    if kind == 0 {
+        let mut list = [0u8; 128];
+        let mut second = [0u8; 16];
+        let mut packed = [0u8; 16];
+        encode_in(
+            kind,
+            rate,
+            taps,
+            bytes,
+            &mut list,
+            &mut second,
+            &mut packed,
+            out,
+        );
+    } else {
+        let mut list = [0u8; 4160];
+        let mut second = [0u8; 520];
+        let mut packed = [0u8; 520];
+        encode_in(
+            kind,
+            rate,
+            taps,
+            bytes,
+            &mut list,
+            &mut second,
+            &mut packed,
+            out,
+        );
+    }
 }
 
 // 1 where two elements differ, and 0 where they are the same.

@@ -1,76 +1,70 @@
 use borrow.Author.Needs.{needs}
 -- `turbo::encode` meets its contract. Assumes nothing.
-use mathlib.Core.Path.{ap, _∙_}
+use mathlib.Core.Path.{_≡_, ap}
 use Prim.Native.Nat.{_≤_}
 use native.Mathlib.Omega.{arith}
-use lib.ListN.{length}
 use borrow.Author.Needs.{needs}
-use Rattle.bits.specs.Bits.{bitOf}
-use Rattle.bits.proofs.ListLaws.{length-written, written-ext}
 use Rattle.card.specs.Modes.{blockBytes}
 use Rattle.turbo.specs.Pairs.{pairCount}
-use Rattle.turbo.specs.Puncture.{keptCount}
 use Rattle.turbo.proofs.StepLaws.{few-pairs}
-use Rattle.turbo.proofs.ParityLaws.{inputs, both-bits, punctured-kept}
 use Rattle.turbo.proofs.encode.Statement.{statement}
 use Rattle.turbo.proofs.encode.Tie as tie
 
--- the local arrays have room for every kind
-fits : (c : tie.Start) → pairCount (c .args .kind) ≤ 2080
-fits c = omega (arith, few-pairs (c .args .kind) (c .pre .0))
+slice-aggregate-encode-in : tie.Need-slice-aggregate-encode-in
+slice-aggregate-encode-in c = search needs
 
-slice-aggregate-second-bytes : tie.Need-slice-aggregate-second-bytes
-slice-aggregate-second-bytes c = search needs
+slice-aggregate-encode-in-2 : tie.Need-slice-aggregate-encode-in-2
+slice-aggregate-encode-in-2 c = search needs
 
-slice-aggregate-second-bytes-2 : tie.Need-slice-aggregate-second-bytes-2
-slice-aggregate-second-bytes-2 c = search needs
+slice-aggregate-encode-in-3 : tie.Need-slice-aggregate-encode-in-3
+slice-aggregate-encode-in-3 c = search needs
 
-second-bytes-requires : tie.Need-second-bytes-requires
-second-bytes-requires c κs = let z = c .before .before .before .before in (z .pre .0, z .pre .2, omega (arith, fits z), omega (arith, fits z))
+encode-in-requires : tie.Need-encode-in-requires
+encode-in-requires c κs =
+    let z = c .before .before .before .before .before .before .before in
+    let e : blockBytes (z .args .kind) ≡ 16 = ap blockBytes (c .before .before .before .before .if1 .taken) in
+    (z .pre, (omega (arith, e), omega (arith, e), omega (arith, e)))
 
-slice-aggregate-parity-bytes : tie.Need-slice-aggregate-parity-bytes
-slice-aggregate-parity-bytes c = search needs
+slice-aggregate-encode-in-4 : tie.Need-slice-aggregate-encode-in-4
+slice-aggregate-encode-in-4 c = search needs
 
-slice-aggregate-parity-bytes-2 : tie.Need-slice-aggregate-parity-bytes-2
-slice-aggregate-parity-bytes-2 c = search needs
+slice-aggregate-encode-in-5 : tie.Need-slice-aggregate-encode-in-5
+slice-aggregate-encode-in-5 c = search needs
 
-parity-bytes-requires : tie.Need-parity-bytes-requires
-parity-bytes-requires c κs =
-    let z = c .before .before .before .before .before .before .before .before .before in
-    (inputs (z .args .kind) _ _ _ (z .pre .0) (z .pre .2) (omega (arith, fits z)) (c .before .before .before .before .second-bytes .ensures .1), omega (arith, fits z))
+slice-aggregate-encode-in-6 : tie.Need-slice-aggregate-encode-in-6
+slice-aggregate-encode-in-6 c = search needs
 
-slice-aggregate-puncture : tie.Need-slice-aggregate-puncture
-slice-aggregate-puncture c = search needs
-
-puncture-requires : tie.Need-puncture-requires
-puncture-requires c κs =
-    let z = c .before .before .before .before .before .before .before .before .before .before .before .before .before in
-    let e = c .before .before .before .parity-bytes .ensures in
-    let n = ap length e ∙ length-written (blockBytes (z .args .kind)) _ _ (omega (arith, fits z)) in
-    (z .pre .0, z .pre .1, omega (arith, n, fits z), z .pre .3)
+encode-in-requires-2 : tie.Need-encode-in-requires-2
+encode-in-requires-2 c κs =
+    let z = c .before .before .before .before .before .before .before in
+    let e : pairCount (z .args .kind) ≤ 2080 = omega (arith, few-pairs (z .args .kind) (z .pre .0)) in
+    (z .pre, (omega (arith, e), omega (arith, e), omega (arith, e)))
 
 same-length : tie.Need-same-length
 same-length c = search needs
 
 returns : tie.Need-returns
-returns c =
-    let z = c .before .before .before .before .before .before .before .before .before .before .before .before .before .before .before .before in
-    c .before .before .puncture .ensures
-    ∙ written-ext (keptCount (z .args .kind) (z .args .rate)) _ _ (z .args .out .now)
-    (punctured-kept (z .args .kind) (z .args .rate) (z .args .taps) (bitOf (z .args .bytes .now)) _
-    (both-bits (z .args .kind) (z .args .taps) _ (blockBytes (z .args .kind)) _ _ (c .before .before .before .before .before .before .parity-bytes .ensures)))
+returns c = search needs
+
+same-length-2 : tie.Need-same-length-2
+same-length-2 c = search needs
+
+returns-2 : tie.Need-returns-2
+returns-2 c = search needs
 
 pub encode-spec : {M : Type 1} → statement M
 encode-spec =
     tie.close
     (tie.spec
-    slice-aggregate-second-bytes
-    slice-aggregate-second-bytes-2
-    second-bytes-requires
-    slice-aggregate-parity-bytes
-    slice-aggregate-parity-bytes-2
-    parity-bytes-requires
-    slice-aggregate-puncture
-    puncture-requires
+    slice-aggregate-encode-in
+    slice-aggregate-encode-in-2
+    slice-aggregate-encode-in-3
+    encode-in-requires
+    slice-aggregate-encode-in-4
+    slice-aggregate-encode-in-5
+    slice-aggregate-encode-in-6
+    encode-in-requires-2
     same-length
-    returns)
+    returns
+    same-length-2
+    returns-2)
