@@ -90,12 +90,14 @@ module _ (words : List ℕ) (b j : ℕ) (held : words ≡ tabulate 16 nibble) (b
   pub word-high : getD words (b / 16) 0 / 2 ^ (8 * j) % 256 ≡ bitAt (7 - j) b
   unfolding nibble
   word-high =
-      word-at (b / 16) (omega arith) ∙ agree₂ 256 4 (λ b j. nibble (b / 16) / 2 ^ (8 * j) % 256) (λ b j. bitAt (7 - j) b) tt b j b-lt j-lt
+      word-at (b / 16) (omega arith)
+      ∙ agree₂ 256 4 (λ b j. nibble (b / 16) / 2 ^ (8 * j) % 256) (λ b j. bitAt (7 - j) b) tt b j b-lt j-lt
 
   pub word-low : getD words (b % 16) 0 / 2 ^ (8 * j) % 256 ≡ bitAt (7 - (4 + j)) b
   unfolding nibble
   word-low =
-      word-at (b % 16) (omega arith) ∙ agree₂ 256 4 (λ b j. nibble (b % 16) / 2 ^ (8 * j) % 256) (λ b j. bitAt (7 - (4 + j)) b) tt b j b-lt j-lt
+      word-at (b % 16) (omega arith)
+      ∙ agree₂ 256 4 (λ b j. nibble (b % 16) / 2 ^ (8 * j) % 256) (λ b j. bitAt (7 - (4 + j)) b) tt b j b-lt j-lt
 
 -- ---- exclusive-or
 

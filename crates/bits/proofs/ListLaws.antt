@@ -105,7 +105,8 @@ module _ {A : Type 0} where
       let e : n + (m - n) ≡ m = omega arith in
       ap (λ (l : List A). tabulate m f ++ l)
       (ap (λ (k : ℕ). drop k (tabulate n g ++ drop n out)) (sym e) ∙ sym (drop-drop (m - n) n (tabulate n g ++ drop n out))
-      ∙ ap (drop (m - n)) (drop-at (tabulate n g) (drop n out) n (length-tabulate n g)) ∙ drop-drop (m - n) n out ∙ ap (λ (k : ℕ). drop k out) e)
+      ∙ ap (drop (m - n)) (drop-at (tabulate n g) (drop n out) n (length-tabulate n g)) ∙ drop-drop (m - n) n out
+      ∙ ap (λ (k : ℕ). drop k out) e)
 
   -- the first m of n written elements are written again
   pub written-again : (m n : ℕ) (f g h : ℕ → A) (d : A) (out : List A) → m ≤ n → n ≤ length out → ((i : ℕ) → i < m → g i ≡ h i)
@@ -197,8 +198,8 @@ unfolding largest
 largest-le zero f k h = absurd (not-suc-le-zero h)
 largest-le (suc n) f k h = go (eq-or-lt-of-le (le-of-suc-le-suc h)) (largest-le n f k) (larger-le (largest n f) (f n))
   where
-    go : (k ≡ n) ⊎ (k < n) → (k < n → f k ≤ largest n f) → (largest n f ≤ larger (largest n f) (f n)) × (f n ≤ larger (largest n f) (f n))
-        → f k ≤ larger (largest n f) (f n)
+    go : (k ≡ n) ⊎ (k < n) → (k < n → f k ≤ largest n f)
+        → (largest n f ≤ larger (largest n f) (f n)) × (f n ≤ larger (largest n f) (f n)) → f k ≤ larger (largest n f) (f n)
     go (inl e) ih (low, high) = rw e high
     go (inr l) ih (low, high) = le-trans (ih l) low
 

@@ -32,7 +32,8 @@ pub agree₄ : (k l m n : ℕ) (f g : ℕ → ℕ → ℕ → ℕ → ℕ)
     → T (allBelow k (λ h. allBelow l (λ i. allBelow m (λ j. allBelow n (λ k. eqb (f h i j k) (g h i j k))))))
     → (a b c d : ℕ) → a < k → b < l → c < m → d < n → f a b c d ≡ g a b c d
 agree₄ k l m n f g t a b c d ha hb hc hd =
-    agree₃ l m n (f a) (g a) (at-each k (λ h. allBelow l (λ i. allBelow m (λ j. allBelow n (λ k. eqb (f h i j k) (g h i j k))))) t a ha) b c d hb hc hd
+    agree₃ l m n (f a) (g a)
+    (at-each k (λ h. allBelow l (λ i. allBelow m (λ j. allBelow n (λ k. eqb (f h i j k) (g h i j k))))) t a ha) b c d hb hc hd
 
 -- a function that stays under a bound
 pub under : (n b : ℕ) (f : ℕ → ℕ) → T (allBelow n (λ k. ltb (f k) b)) → (k : ℕ) → k < n → f k < b

@@ -35,16 +35,18 @@ fn source_bits(kind: usize, rate: usize, taps: u16, bytes: &[u8], out: &mut [u8]
 fn encode_by(kind: usize, rate: usize, taps: u16, bytes: &[u8], source: &mut [u8], out: &mut [u8])
     requires { ⌜ (Defined kind rate) × (length (now bytes) ≡ blockBytes kind) ⌝ }
     requires { ⌜ (codedBits kind rate ≤ length (now source)) × (codedBits kind rate ≤ length (now out)) ⌝ }
-    ensures source { λ _. ⌜ now (source .exit) ≡ written (codedBits kind rate) (sourceBit kind rate taps (bitOf (now (bytes .entry)))) (now (source .entry)) ⌝ }
-    ensures coded { λ _. ⌜ now (out .exit) ≡ written (codedBits kind rate) (codedBit kind rate taps (bitOf (now (bytes .entry)))) (now (out .entry)) ⌝ }
+    ensures source { λ _. ⌜ now (source .exit) ≡ written (codedBits kind rate)
+        (sourceBit kind rate taps (bitOf (now (bytes .entry)))) (now (source .entry)) ⌝ }
+    ensures coded { λ _. ⌜ now (out .exit) ≡ written (codedBits kind rate)
+        (codedBit kind rate taps (bitOf (now (bytes .entry)))) (now (out .entry)) ⌝ }
 {
     source_bits(kind, rate, taps, bytes, source);
     let coded = interleaver::coded_bits(kind, rate);
     interleaver::interleave(kind, rate, &source[..coded], out);
 }
 
-// The coded bits of a block, at the start of `out`. Of the taps the low eleven bits count. Frame control has an array of its own, since
-// to clear the long one takes longer than to code.
+// The coded bits of a block, at the start of `out`. Of the taps the low eleven bits count. Frame control has a short array of its
+// own, since a longer one takes longer to clear.
 pub fn encode(kind: usize, rate: usize, taps: u16, bytes: &[u8], out: &mut [u8])
     requires { ⌜ (Defined kind rate) × (length (now bytes) ≡ blockBytes kind) × (codedBits kind rate ≤ length (now out)) ⌝ }
     ensures { λ _. ⌜ now (out .exit) ≡ written (codedBits kind rate) (codedBit kind rate taps (bitOf (now (bytes .entry)))) (now (out .entry)) ⌝ }
@@ -101,10 +103,12 @@ fn count_errors(
     parity: &[u8],
     again: &mut [u8],
 ) -> usize
-    requires { ⌜ (Defined kind rate) × (length (now bytes) ≡ blockBytes kind) × (length (now parity) ≡ keptCount kind rate) × (keptCount kind rate ≤ length (now again)) ⌝ }
+    requires { ⌜ (Defined kind rate) × (length (now bytes) ≡ blockBytes kind) × (length (now parity) ≡ keptCount kind rate)
+        × (keptCount kind rate ≤ length (now again)) ⌝ }
     ensures count { λ r. ⌜ r ≡ count (keptCount kind rate)
         (λ i. not (eqb (keptBit kind rate taps (bitOf (now (bytes .entry))) i) (getD (now (parity .entry)) i 0))) ⌝ }
-    ensures again { λ _. ⌜ now (again .exit) ≡ written (keptCount kind rate) (keptBit kind rate taps (bitOf (now (bytes .entry)))) (now (again .entry)) ⌝ }
+    ensures again { λ _. ⌜ now (again .exit) ≡ written (keptCount kind rate)
+        (keptBit kind rate taps (bitOf (now (bytes .entry)))) (now (again .entry)) ⌝ }
 {
     turbo::encode(kind, rate, taps, bytes, again);
     let kept = parity.len();
@@ -125,8 +129,8 @@ fn parity_errors(kind: usize, rate: usize, taps: u16, bytes: &[u8], parity: &[u8
     count_errors(kind, rate, taps, bytes, parity, &mut again)
 }
 
-// The bytes of a block from its coded bits, all of them decided, at the start of `out`, or refusal 8. The source bits are written at the
-// start of `source`, and nothing to `out` before the check has passed.
+// The bytes of a block from its coded bits, all of them decided, at the start of `out`, or refusal 8. The source bits are written
+// at the start of `source`, and nothing to `out` before the check has passed.
 fn recover_by(
     kind: usize,
     rate: usize,
@@ -135,11 +139,13 @@ fn recover_by(
     source: &mut [u8],
     out: &mut [u8],
 ) -> Answer
-    requires { ⌜ (Defined kind rate) × (length (now decided) ≡ codedBits kind rate) × (length (now decided) ≤ firstAbove 1 (now decided)) ⌝ }
+    requires { ⌜ (Defined kind rate) × (length (now decided) ≡ codedBits kind rate)
+        × (length (now decided) ≤ firstAbove 1 (now decided)) ⌝ }
     requires { ⌜ (codedBits kind rate ≤ length (now source)) × (blockBytes kind ≤ length (now out)) ⌝ }
     ensures answer { λ r. ⌜ answer r ≡ recovered kind rate taps (λ i. getD (now (decided .entry)) i 0) (now (out .entry)) .report ⌝ }
     ensures bytes { λ _. ⌜ now (out .exit) ≡ recovered kind rate taps (λ i. getD (now (decided .entry)) i 0) (now (out .entry)) .out ⌝ }
-    ensures source { λ _. ⌜ now (source .exit) ≡ written (codedBits kind rate) (λ k. getD (now (decided .entry)) (codedAt kind rate k) 0) (now (source .entry)) ⌝ }
+    ensures source { λ _. ⌜ now (source .exit) ≡ written (codedBits kind rate)
+        (λ k. getD (now (decided .entry)) (codedAt kind rate k) 0) (now (source .entry)) ⌝ }
 {
     let coded = decided.len();
     let size = card::block_bytes(kind);

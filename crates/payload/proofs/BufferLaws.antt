@@ -7,7 +7,7 @@ use lib.ListN.{length, getD, take, drop, length-append}
 use lib.Seq.{take-at, length-take-le, getD-take}
 use Rattle.bits.specs.Bits.{bitOf, bytesOf}
 use Rattle.bits.specs.Lists.{written}
-use Rattle.bits.proofs.ListLaws.{length-written, getD-written, written-ext}
+use Rattle.bits.proofs.ListLaws.{length-written, getD-written, written-ext, written-over}
 use Rattle.refusal.specs.Report.{Report, done}
 use Rattle.refusal.specs.Outcome.{Outcome}
 use Rattle.card.specs.Modes.{blockBytes}
@@ -43,31 +43,30 @@ module _ (block was now : List ℕ) (e : now ≡ scramble block ++ drop (length 
   pub scrambled-bits : (i : ℕ) → i < 8 * length block → bitOf (take (length block) now) i ≡ scrambled (bitOf block) i
   scrambled-bits i h = ap (λ (l : List ℕ). bitOf l i) scrambled-part ∙ bits-scramble block i h
 
--- ---- a buffer that holds the coded bits at its start
+-- ---- memory that holds the coded bits at its start
 
 -- items ask only for the coded bits
 sent-ext : (L : Layout) → Laid L → (d e : ℕ → ℕ) → ((b : ℕ) → b < L .coded → d b ≡ e b) → (n : ℕ) → n < items L → sentOn L d n ≡ sentOn L e n
 unfolding sentOn
 sent-ext L laid d e same n h = same (carried L n) (carried-below L laid n h)
 
-module _ (L : Layout) (kind rate taps : ℕ) (D : Defined kind rate) (count : L .coded ≡ codedBits kind rate) (d : ℕ → ℕ) (was now : List ℕ)
-    (room : codedBits kind rate ≤ length was) (e : now ≡ written (codedBits kind rate) (codedBit kind rate taps d) was) where
-  pub coded-room : L .coded ≤ length now
-  coded-room = omega (arith, ap length e ∙ length-written (codedBits kind rate) (codedBit kind rate taps d) was room)
+module _ (L : Layout) (kind rate taps : ℕ) (D : Defined kind rate) (count : L .coded ≡ codedBits kind rate) (laid : Laid L) where
+  -- the coded bits are fewer than the items
+  pub coded-items : codedBits kind rate ≤ items L
+  coded-items = omega (arith, laid .full)
 
-  pub coded-length : length (take (L .coded) now) ≡ L .coded
-  coded-length = length-take-le (L .coded) now coded-room
-
-  -- the items of the buffer are those of the block
-  pub items-written : Laid L → (block : List ℕ) → ((k : ℕ) → k < dataBits kind → d k ≡ scrambled (bitOf block) k) → (out : List ℕ)
-      → written (items L) (sentOn L (λ b. getD (take (L .coded) now) b 0)) out ≡ written (items L) (sentItem L kind rate taps block) out
+  -- the items of the coded bits of d are those of the block
+  pub items-written : (d : ℕ → ℕ) (block out now : List ℕ) → ((k : ℕ) → k < dataBits kind → d k ≡ scrambled (bitOf block) k)
+      → now ≡ written (codedBits kind rate) (codedBit kind rate taps d) out
+      → written (items L) (sentOn L (λ b. getD now b 0)) now ≡ written (items L) (sentItem L kind rate taps block) out
   unfolding sentItem
-  items-written laid block same out =
-      written-ext (items L) (sentOn L (λ b. getD (take (L .coded) now) b 0)) (sentOn L (codedBit kind rate taps (scrambled (bitOf block)))) out
-      (sent-ext L laid (λ b. getD (take (L .coded) now) b 0) (codedBit kind rate taps (scrambled (bitOf block))) (λ b h.
-      getD-take (L .coded) now b 0 h ∙ ap (λ (l : List ℕ). getD l b 0) e
-      ∙ getD-written (codedBits kind rate) (codedBit kind rate taps d) was b 0 (omega arith)
+  items-written d block out now same e =
+      let f = sentOn L (codedBit kind rate taps (scrambled (bitOf block))) in
+      written-ext (items L) (sentOn L (λ b. getD now b 0)) f now
+      (sent-ext L laid (λ b. getD now b 0) (codedBit kind rate taps (scrambled (bitOf block))) (λ b h.
+      ap (λ (l : List ℕ). getD l b 0) e ∙ getD-written (codedBits kind rate) (codedBit kind rate taps d) out b 0 (omega arith)
       ∙ coded-ext kind rate D taps d (scrambled (bitOf block)) same b (omega arith)))
+      ∙ ap (written (items L) f) e ∙ written-over (codedBits kind rate) (items L) f (codedBit kind rate taps d) out coded-items
 
 -- ---- a buffer that holds the decided bits at its start
 

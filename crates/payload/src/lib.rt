@@ -52,10 +52,8 @@ fn send_items(l: Layout, kind: usize, rate: usize, taps: u16, block: &[u8], out:
     let size = block.len();
     let mut scrambled = [0u8; 520];
     scrambler::scramble(block, &mut scrambled);
-    let mut coded = [0u8; 8320];
-    fec::encode(kind, rate, taps, &scrambled[..size], &mut coded);
-    let count = l.coded;
-    payload_layout::send(l, &coded[..count], out);
+    fec::encode(kind, rate, taps, &scrambled[..size], out);
+    payload_layout::fill_pad(l, out);
 }
 
 // Sending behind the card's checks: refusal 9, 4 or 5, or the items.

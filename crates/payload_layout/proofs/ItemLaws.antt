@@ -57,18 +57,6 @@ pub carries-pad : (L : Layout) (j b : ℕ) → eqb j b ≡ carries L (L .coded +
 unfolding carries
 carries-pad L j b = ap (λ (x : ℕ). eqb x b) (pad-place L j)
 
--- what is sent of the coded bits
-module _ (L : Layout) (coded : List ℕ) (long : length coded ≡ L .coded) where
-  pub sent-data : coded ≡ tabulate (L .coded) (sentOn L (λ b. getD coded b 0))
-  unfolding sentOn
-  sent-data = tabulate-of (L .coded) _ 0 coded long (λ i h. ap (λ (b : ℕ). getD coded b 0) (carried-data L i h))
-
-  pub sent-pad : L .pad ≤ L .coded → take (L .pad) coded ≡ tabulate (L .pad) (λ j. sentOn L (λ b. getD coded b 0) (L .coded + j))
-  unfolding sentOn
-  sent-pad within =
-      tabulate-of (L .pad) _ 0 (take (L .pad) coded) (length-take-le (L .pad) coded (omega arith))
-      (λ i h. getD-take (L .pad) coded i 0 h ∙ ap (λ (b : ℕ). getD coded b 0) (pad-place L i))
-
 -- ---- what received items decide
 
 -- an only copy that is heard, and one that is lost
@@ -91,13 +79,15 @@ run-none n b v run h = count-and-none n (λ k. eqb k b) _ (λ k l t. absurd (ome
 
 module _ (L : Layout) (laid : Laid L) (received : List ℕ) (b : ℕ) (b-lt : b < L .coded) where
   -- the votes for v: that of the item in place b, and those in the pad
-  bit-votes : (v : ℕ) → votes (items L) (carries L) received b v ≡ vote (getD received b 0) v + votes (L .pad) eqb (drop (L .coded) received) b v
+  bit-votes : (v : ℕ)
+      → votes (items L) (carries L) received b v ≡ vote (getD received b 0) v + votes (L .pad) eqb (drop (L .coded) received) b v
   unfolding votes
   bit-votes v =
       ap (λ (n : ℕ). votes n (carries L) received b v) (laid .full)
       ∙ votes-append (L .coded) (L .pad) (carries L) eqb received b v (λ j h. carries-pad L j b)
       ∙ ap (λ (n : ℕ). n + votes (L .pad) eqb (drop (L .coded) received) b v)
-      (count-ext (L .coded) _ _ (λ j h. ap (λ (t : Bool). t && eqb (getD received j 0) v) (sym (carries-data L j h b))) ∙ run-vote (L .coded) b v received b-lt)
+      (count-ext (L .coded) _ _ (λ j h. ap (λ (t : Bool). t && eqb (getD received j 0) v) (sym (carries-data L j h b)))
+      ∙ run-vote (L .coded) b v received b-lt)
 
   pub decided-once : L .pad ≤ b → ofOne (getD received b 0) ≡ decided (items L) (carries L) received b
   unfolding ofOne decided
@@ -106,11 +96,13 @@ module _ (L : Layout) (laid : Laid L) (received : List ℕ) (b : ℕ) (b-lt : b 
       side : (v : ℕ) → votes (items L) (carries L) received b v ≡ vote (getD received b 0) v
       side v = omega (arith, bit-votes v, run-none (L .pad) b v (drop (L .coded) received) h)
 
-  pub decided-twice : b < L .pad → ofTwo (getD received b 0) (getD (drop (L .coded) received) b 0) ≡ decided (items L) (carries L) received b
+  pub decided-twice : b < L .pad
+      → ofTwo (getD received b 0) (getD (drop (L .coded) received) b 0) ≡ decided (items L) (carries L) received b
   unfolding ofTwo decided
   decided-twice h = sym (ap₂ majority (side 0) (side 1))
     where
-      side : (v : ℕ) → votes (items L) (carries L) received b v ≡ vote (getD received b 0) v + vote (getD (drop (L .coded) received) b 0) v
+      side : (v : ℕ)
+          → votes (items L) (carries L) received b v ≡ vote (getD received b 0) v + vote (getD (drop (L .coded) received) b 0) v
       side v = bit-votes v ∙ ap (_+_ (vote (getD received b 0) v)) (run-vote (L .pad) b v (drop (L .coded) received) h)
 
 -- both loops together
@@ -130,7 +122,8 @@ module _ (L : Layout) (laid : Laid L) (received : List ℕ) (long : length recei
       → now ≡ written (length padPart) (λ b. ofTwo (getD received b 0) (getD padPart b 0)) once
       → now ≡ written (L .coded) (decided (items L) (carries L) received) out
   decided-written out once now room e d =
-      d ∙ ap (written (length padPart) twos) (e ∙ ap (λ (n : ℕ). written n ones out) data-length) ∙ ap (λ (n : ℕ). written n twos (written (L .coded) ones out)) pad-length
+      d ∙ ap (written (length padPart) twos) (e ∙ ap (λ (n : ℕ). written n ones out) data-length)
+      ∙ ap (λ (n : ℕ). written n twos (written (L .coded) ones out)) pad-length
       ∙ written-again (L .pad) (L .coded) ones twos (decided (items L) (carries L) received) 0 out (laid .within) room
       (λ b h.
       ap (λ (l : List ℕ). ofTwo (getD received b 0) (getD l b 0)) (part-to-end received (L .coded))

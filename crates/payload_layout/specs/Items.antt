@@ -1,4 +1,5 @@
--- Which coded bit each item of a payload carries (paper 01, Carriers), and what a bit's copies decide. Items run by symbol, place and bit in the carrier. Assumes nothing.
+-- Which coded bit each item of a payload carries (paper 01, Carriers), and what a bit's copies decide. Items run by symbol, place
+-- and bit in the carrier. Assumes nothing.
 use mathlib.Core.Bool.{Bool, cond}
 use Prim.Native.Nat.{ℕ, _+_, _-_}
 use lib.Dec.{eqb, ltb}

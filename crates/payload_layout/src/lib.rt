@@ -47,15 +47,18 @@ pub fn item_count(l: Layout) -> usize
     l.coded + l.pad
 }
 
-// The items of the coded bits, at the start of `out`: the coded bits in order, then those from 0 on that fill the last symbol.
-pub fn send(l: Layout, coded: &[u8], out: &mut [u8])
-    requires { ⌜ (Laid l) × (length (now coded) ≡ l .coded) × (itemsOf l ≤ length (now out)) ⌝ }
-    ensures { λ _. ⌜ now (out .exit) ≡ written (itemsOf l) (sentOn l (λ b. getD (now (coded .entry)) b 0)) (now (out .entry)) ⌝ }
+// The items of the coded bits, which stand at the start of `out`: they stay, and those from 0 on that fill the last symbol follow.
+pub fn fill_pad(l: Layout, out: &mut [u8])
+    requires { ⌜ (Laid l) × (itemsOf l ≤ length (now out)) ⌝ }
+    ensures { λ _. ⌜ now (out .exit) ≡ written (itemsOf l) (sentOn l (λ b. getD (now (out .entry)) b 0)) (now (out .entry)) ⌝ }
 {
     let first = l.coded;
     let pad = l.pad;
-    bits::put(coded, out);
-    bits::put(&coded[..pad], &mut out[first..]);
+    let mut i: usize = 0;
+    while i < pad {
+        out[first + i] = out[i];
+        i += 1;
+    }
 }
 
 // ---- decisions
@@ -92,7 +95,8 @@ fn of_two(a: u8, b: u8) -> u8
 // What items that are the only copies of the bits in order decide, at the start of `out`.
 fn decide_ones(items: &[u8], out: &mut [u8])
     requires { ⌜ length (now items) ≤ length (now out) ⌝ }
-    ensures { λ _. ⌜ now (out .exit) ≡ written (length (now (items .entry))) (λ b. ofOne (getD (now (items .entry)) b 0)) (now (out .entry)) ⌝ }
+    ensures { λ _. ⌜ now (out .exit) ≡ written (length (now (items .entry)))
+        (λ b. ofOne (getD (now (items .entry)) b 0)) (now (out .entry)) ⌝ }
 {
     let mut b: usize = 0;
     while b < items.len() {

@@ -72,7 +72,8 @@ every-register = agree 1024 (λ r. scramblerBit r 10) (λ r. bitXor (scramblerBi
 follows-ten : Follows 7 10
 unfolding scramblerBit afterShifts
 follows-ten n =
-    sym (scrambler-add allOnes n 10) ∙ every-register (afterShifts allOnes n) (after-lt n) ∙ ap (bitXor (scramblerBit allOnes n)) (scrambler-add allOnes n 7)
+    sym (scrambler-add allOnes n 10) ∙ every-register (afterShifts allOnes n) (after-lt n)
+    ∙ ap (bitXor (scramblerBit allOnes n)) (scrambler-add allOnes n 7)
 
 differ-twice : (x y z : ℕ) → x < 2 → y < 2 → z < 2 → bitXor (bitXor x y) (bitXor y z) ≡ bitXor x z
 differ-twice = agree₃ 2 2 2 (λ x y z. bitXor (bitXor x y) (bitXor y z)) (λ x y z. bitXor x z) tt
@@ -85,7 +86,8 @@ follows-twice near far h n =
     let middle : n + far + near ≡ n + near + far = omega arith in
     let last : n + near + near ≡ n + 2 * near = omega arith in
     ap b both ∙ h (n + far) ∙ ap₂ bitXor (h n) (ap b middle ∙ h (n + near))
-    ∙ differ-twice (b n) (b (n + near)) (b (n + near + near)) (scrambler-binary allOnes _) (scrambler-binary allOnes _) (scrambler-binary allOnes _)
+    ∙ differ-twice (b n) (b (n + near)) (b (n + near + near))
+    (scrambler-binary allOnes _) (scrambler-binary allOnes _) (scrambler-binary allOnes _)
     ∙ ap (λ (m : ℕ). bitXor (b n) (b m)) last
 
 -- squared three times it holds of bytes
@@ -96,11 +98,13 @@ byte-follows i h =
     (pack-ext 8 _ (λ j. bitXor (scramblerBit allOnes (8 * (i - 10) + j)) (scramblerBit allOnes (8 * (i - 3) + j))) bits
     ∙ pack-xor 8 _ _ (λ j l. scrambler-binary allOnes (8 * (i - 10) + j)) (λ j l. scrambler-binary allOnes (8 * (i - 3) + j)))
   where
-    bits : (j : ℕ) → j < 8 → scramblerBit allOnes (8 * i + j) ≡ bitXor (scramblerBit allOnes (8 * (i - 10) + j)) (scramblerBit allOnes (8 * (i - 3) + j))
+    bits : (j : ℕ) → j < 8
+        → scramblerBit allOnes (8 * i + j) ≡ bitXor (scramblerBit allOnes (8 * (i - 10) + j)) (scramblerBit allOnes (8 * (i - 3) + j))
     bits j l =
         let far : 8 * i + j ≡ 8 * (i - 10) + j + 80 = omega arith in
         let near : 8 * (i - 10) + j + 56 ≡ 8 * (i - 3) + j = omega arith in
-        ap (scramblerBit allOnes) far ∙ follows-twice 28 40 (follows-twice 14 20 (follows-twice 7 10 follows-ten)) (8 * (i - 10) + j)
+        ap (scramblerBit allOnes) far
+        ∙ follows-twice 28 40 (follows-twice 14 20 (follows-twice 7 10 follows-ten)) (8 * (i - 10) + j)
         ∙ ap (λ (m : ℕ). bitXor (scramblerBit allOnes (8 * (i - 10) + j)) (scramblerBit allOnes m)) near
 
 -- ---- bits
@@ -126,23 +130,29 @@ pub block-binary : (bytes : List ℕ) (n : ℕ) → Binary n (scrambled (bitOf b
 block-binary bytes n j l = scrambled-binary (bitOf bytes) j (bit-binary bytes j)
 
 -- byte k of a scrambled block is the byte with the scrambler's next eight bits
-pub scrambled-byte : (bytes : List ℕ) (k : ℕ) → getD bytes k 0 < 256 → bitXor (getD bytes k 0) (scramblerByte k) ≡ byteOf (scrambled (bitOf bytes)) k
+pub scrambled-byte : (bytes : List ℕ) (k : ℕ) → getD bytes k 0 < 256
+    → bitXor (getD bytes k 0) (scramblerByte k) ≡ byteOf (scrambled (bitOf bytes)) k
 unfolding byteOf scrambled scramblerByte
 scrambled-byte bytes k h =
     sym
-    (pack-xor 8 (λ j. bitOf bytes (8 * k + j)) (λ j. scramblerBit allOnes (8 * k + j)) (λ j l. bit-binary bytes (8 * k + j)) (λ j l. scrambler-binary allOnes (8 * k + j))
+    (pack-xor 8 (λ j. bitOf bytes (8 * k + j)) (λ j. scramblerBit allOnes (8 * k + j))
+    (λ j l. bit-binary bytes (8 * k + j)) (λ j l. scrambler-binary allOnes (8 * k + j))
     ∙ ap (λ (b : ℕ). bitXor b (scramblerByte k)) (byte-bits bytes k h))
 
 -- the scrambler's bytes are written first, and the block's are added
-pub scramble-added : (bytes out run now : List ℕ) → ((k : ℕ) → getD bytes k 0 < 256) → run ≡ written (length bytes) scramblerByte out
-    → now ≡ written (length bytes) (λ k. bitXor (getD bytes k 0) (getD run k 0)) run → now ≡ scramble bytes ++ drop (length bytes) out
+pub scramble-added : (bytes out run now : List ℕ) → ((k : ℕ) → getD bytes k 0 < 256)
+    → run ≡ written (length bytes) scramblerByte out
+    → now ≡ written (length bytes) (λ k. bitXor (getD bytes k 0) (getD run k 0)) run
+    → now ≡ scramble bytes ++ drop (length bytes) out
 unfolding scramble bytesOf written
 scramble-added bytes out run now small e d =
     let n = length bytes in
     let f = byteOf (scrambled (bitOf bytes)) in
     d
     ∙ written-ext n _ f run
-    (λ k h. ap (bitXor (getD bytes k 0)) (ap (λ (l : List ℕ). getD l k 0) e ∙ getD-written n scramblerByte out k 0 h) ∙ scrambled-byte bytes k (small k))
+    (λ k h.
+    ap (bitXor (getD bytes k 0)) (ap (λ (l : List ℕ). getD l k 0) e ∙ getD-written n scramblerByte out k 0 h)
+    ∙ scrambled-byte bytes k (small k))
     ∙ ap (written n f) e ∙ written-over n n f scramblerByte out (omega arith)
 
 pub length-scramble : (bytes : List ℕ) → length (scramble bytes) ≡ length bytes

@@ -81,8 +81,8 @@ fn step_bytes(count: usize, out: &mut [u8])
     }
 }
 
-// The scrambler's bytes from its first ten: each is the exclusive-or of the bytes ten and three before it, which is far quicker than
-// eight steps of the register.
+// The scrambler's bytes from its first ten: each is the exclusive-or of the bytes ten and three before it, far quicker than eight
+// steps of the register.
 fn follow_bytes(count: usize, out: &mut [u8])
     requires { ⌜ (10 ≤ count) × (count ≤ length (now out)) × ((k : ℕ) → k < 10 → getD (now out) k 0 ≡ scramblerByte k) ⌝ }
     ensures { λ _. ⌜ now (out .exit) ≡ written count scramblerByte (now (out .entry)) ⌝ }

@@ -35,10 +35,13 @@ loop-again : tie.Need-loop-again Inv-loop μ-loop
 loop-again c =
     let l = c .before .before .before .loop in
     let s = c .before .before .before .before .before .args .s .now in
-    (search needs, c .larger .ensures ∙ ap (λ (m : ℕ). larger m (getD s (l .i) 0)) (l .inv .1) ∙ sym (largest-next (l .i) (λ k. getD s k 0)))
+    let next = sym (largest-next (l .i) (λ k. getD s k 0)) in
+    (search needs, c .larger .ensures ∙ ap (λ (m : ℕ). larger m (getD s (l .i) 0)) (l .inv .1) ∙ next)
 
 returns : tie.Need-returns Inv-loop μ-loop
-returns c = let n : c .before .loop .i ≡ length (c .before .before .before .args .s .now) = omega arith in rw n at (c .before .loop .inv .1)
+returns c =
+    let n : c .before .loop .i ≡ length (c .before .before .before .args .s .now) = omega arith in
+    rw n at (c .before .loop .inv .1)
 
 pub largest-spec : {M : Type 1} → statement M
 largest-spec =

@@ -36,7 +36,8 @@ same-length c = search needs
 
 returns : tie.Need-returns
 returns c =
-    written-two 2 _ _ _ _ _ (written-two 0 _ _ _ _ _ (written-none _ _) (omega arith) (omega arith) (omega arith)) (omega arith) (omega arith) (omega arith)
+    written-two 2 _ _ _ _ _
+    (written-two 0 _ _ _ _ _ (written-none _ _) (omega arith) (omega arith) (omega arith)) (omega arith) (omega arith) (omega arith)
 
 pub put-word-spec : {M : Type 1} → statement M
 put-word-spec =

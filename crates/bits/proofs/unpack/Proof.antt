@@ -55,7 +55,8 @@ loop-again c =
     let bytes = at .before .before .before .before .args .bytes .now in (
       search needs,
       written-all _ _ _ _ _
-          (written-part (8 * at .loop .k) 8 (bitOf bytes) _ _ _ _ (at .loop .inv .1) (byte-bit bytes (at .loop .k)) (c .before .before .put-bits .ensures))
+          (written-part (8 * at .loop .k) 8 (bitOf bytes) _ _ _ _ (at .loop .inv .1) (byte-bit bytes (at .loop .k))
+          (c .before .before .put-bits .ensures))
           (omega arith),
       omega arith,
     )

@@ -59,7 +59,8 @@ returns : tie.Need-returns
 returns c =
     let o = c .before .before .before .before in
     let z = entry o in
-    (c .disagreements .ensures ∙ counted _ _ _ _ (z .args .parity .now) (z .pre .3) (o .encode .ensures) (z .pre .2), o .encode .ensures)
+    let law = counted _ _ _ _ (z .args .parity .now) (z .pre .3) (o .encode .ensures) (z .pre .2) in
+    (c .disagreements .ensures ∙ law, o .encode .ensures)
 
 pub count-errors-spec : {M : Type 1} → statement M
 count-errors-spec =

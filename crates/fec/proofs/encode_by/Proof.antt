@@ -83,7 +83,8 @@ returns c =
     let o = c .before .before .before .before .before in
     let s = o .before .before .before in
     let z = entry s in
-    (s .source-bits .ensures, c .before .before .interleave .ensures ∙ coded-written (filled s) _ (o .coded-bits .ensures) (z .pre .0 .0) (z .args .out .now))
+    let law = coded-written (filled s) _ (o .coded-bits .ensures) (z .pre .0 .0) (z .args .out .now) in
+    (s .source-bits .ensures, c .before .before .interleave .ensures ∙ law)
 
 pub encode-by-spec : {M : Type 1} → statement M
 encode-by-spec =

@@ -17,7 +17,8 @@ module _ (bits : List ℕ) (k : ℕ) (bit : (j : ℕ) → j < 8 → getD bits (8
   first = omega (arith, at-first, bit 0 (omega arith))
 
   -- four bits above four bits
-  joined : (high low : ℕ) → high ≡ getD bits (8 * k) 0 * 8 + getD bits (8 * k + 1) 0 * 4 + getD bits (8 * k + 2) 0 * 2 + getD bits (8 * k + 3) 0
+  joined : (high low : ℕ)
+      → high ≡ getD bits (8 * k) 0 * 8 + getD bits (8 * k + 1) 0 * 4 + getD bits (8 * k + 2) 0 * 2 + getD bits (8 * k + 3) 0
       → low ≡ getD bits (8 * k + 4) 0 * 8 + getD bits (8 * k + 5) 0 * 4 + getD bits (8 * k + 6) 0 * 2 + getD bits (8 * k + 7) 0
       → (high < 16) × (low < 16) × (high * 16 + low ≡ byteOf (λ i. getD bits i 0) k)
   unfolding byteOf pack
@@ -34,10 +35,12 @@ entry c = c .before .before .before .before .before .before
 packed : (c : tie.After-pack-nibble2)
     → let high = c .before .before .before .before .before in
     (high .pack-nibble .result < 16) × (c .pack-nibble2 .result < 16)
-    × (high .pack-nibble .result * 16 + c .pack-nibble2 .result ≡ byteOf (λ i. getD (entry high .args .bits .now) i 0) (entry high .args .k))
+    × (high .pack-nibble .result * 16 + c .pack-nibble2 .result
+    ≡ byteOf (λ i. getD (entry high .args .bits .now) i 0) (entry high .args .k))
 packed c =
     let high = c .before .before .before .before .before in
-    joined (entry high .args .bits .now) (entry high .args .k) (entry high .pre .2) _ _ (high .pack-nibble .ensures) (c .pack-nibble2 .ensures)
+    joined (entry high .args .bits .now) (entry high .args .k) (entry high .pre .2) _ _
+    (high .pack-nibble .ensures) (c .pack-nibble2 .ensures)
 
 mul-i : tie.Need-mul-i
 mul-i c = search needs

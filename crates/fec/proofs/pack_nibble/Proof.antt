@@ -32,8 +32,8 @@ cast-result c = search needs
 
 returns : tie.Need-returns
 returns c =
-    agree₄ 2 2 2 2 (λ a b c d. (a + b * 256 + c * 65536 + d * 16777216) * 134480385 / 16777216 % 16) (λ a b c d. a * 8 + b * 4 + c * 2 + d) tt _ _ _ _
-    (c .pre .0) (c .pre .1) (c .pre .2) (c .pre .3)
+    agree₄ 2 2 2 2 (λ a b c d. (a + b * 256 + c * 65536 + d * 16777216) * 134480385 / 16777216 % 16)
+    (λ a b c d. a * 8 + b * 4 + c * 2 + d) tt _ _ _ _ (c .pre .0) (c .pre .1) (c .pre .2) (c .pre .3)
 
 pub pack-nibble-spec : {M : Type 1} → statement M
 pack-nibble-spec =

@@ -40,8 +40,9 @@ slice-aggregate-recover-by c = search needs
 
 recover-by-requires : tie.Need-recover-by-requires
 recover-by-requires c κs =
-    let z = entry (c .before .before .before) in
-    ((z .pre .0, z .pre .1, all-decided (c .before .before .before)), (frame-coded (z .args .kind) (z .args .rate) (z .pre .0) (omega arith), z .pre .2))
+    let o = c .before .before .before in
+    let z = entry o in
+    ((z .pre .0, z .pre .1, all-decided o), (frame-coded (z .args .kind) (z .args .rate) (z .pre .0) (omega arith), z .pre .2))
 
 same-length : tie.Need-same-length
 same-length c = search needs
@@ -54,8 +55,9 @@ slice-aggregate-recover-by-2 c = search needs
 
 recover-by-requires-2 : tie.Need-recover-by-requires-2
 recover-by-requires-2 c κs =
-    let z = entry (c .before .before .before) in
-    ((z .pre .0, z .pre .1, all-decided (c .before .before .before)), (coded-le (z .args .kind) (z .args .rate) (z .pre .0), z .pre .2))
+    let o = c .before .before .before in
+    let z = entry o in
+    ((z .pre .0, z .pre .1, all-decided o), (coded-le (z .args .kind) (z .args .rate) (z .pre .0), z .pre .2))
 
 same-length-2 : tie.Need-same-length-2
 same-length-2 c = search needs

@@ -7,10 +7,14 @@ use Rattle.payload_layout.proofs.decide.Statement.{statement}
 use Rattle.payload_layout.proofs.decide.Tie as tie
 
 slice-aggregate-decide-ones : tie.Need-slice-aggregate-decide-ones
-slice-aggregate-decide-ones c = let z = c .before .before .before in sym (data-length (z .args .l) (z .pre .0) (z .args .items .now) (z .pre .2))
+slice-aggregate-decide-ones c =
+    let z = c .before .before .before in
+    sym (data-length (z .args .l) (z .pre .0) (z .args .items .now) (z .pre .2))
 
 decide-ones-requires : tie.Need-decide-ones-requires
-decide-ones-requires c κs = let z = c .before .before .before .before in omega (arith, data-length (z .args .l) (z .pre .0) (z .args .items .now) (z .pre .2), z .pre .3)
+decide-ones-requires c κs =
+    let z = c .before .before .before .before in
+    omega (arith, data-length (z .args .l) (z .pre .0) (z .args .items .now) (z .pre .2), z .pre .3)
 
 sub-decide-twos : tie.Need-sub-decide-twos
 sub-decide-twos c = search needs
@@ -32,7 +36,8 @@ returns c =
     let twos = c .before .before in
     let ones = twos .before .before .before .before .before in
     let z = ones .before .before .before .before .before in
-    decided-written (z .args .l) (z .pre .0) (z .args .items .now) (z .pre .2) _ _ _ (z .pre .3) (ones .decide-ones .ensures) (twos .decide-twos .ensures)
+    decided-written (z .args .l) (z .pre .0) (z .args .items .now) (z .pre .2) _ _ _ (z .pre .3)
+    (ones .decide-ones .ensures) (twos .decide-twos .ensures)
 
 pub decide-spec : {M : Type 1} → statement M
 decide-spec =

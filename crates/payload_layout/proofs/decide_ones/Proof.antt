@@ -11,7 +11,8 @@ use Rattle.payload_layout.proofs.decide_ones.Statement.{statement}
 use Rattle.payload_layout.proofs.decide_ones.Tie as tie
 
 abbrev Inv-loop : tie.InvT-loop
-Inv-loop items out₀ b₀ out b = (b ≤ length items) × (out ≡ written b (λ b. ofOne (getD items b 0)) out₀) × (length out ≡ length out₀)
+Inv-loop items out₀ b₀ out b =
+    (b ≤ length items) × (out ≡ written b (λ b. ofOne (getD items b 0)) out₀) × (length out ≡ length out₀)
 
 abbrev μ-loop : tie.MeasureT-loop
 μ-loop items out₀ b₀ out b = length items - b

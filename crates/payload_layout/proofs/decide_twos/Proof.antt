@@ -11,7 +11,8 @@ use Rattle.payload_layout.proofs.decide_twos.Statement.{statement}
 use Rattle.payload_layout.proofs.decide_twos.Tie as tie
 
 abbrev Inv-loop : tie.InvT-loop
-Inv-loop items pad out₀ b₀ out b = (b ≤ length pad) × (out ≡ written b (λ b. ofTwo (getD items b 0) (getD pad b 0)) out₀) × (length out ≡ length out₀)
+Inv-loop items pad out₀ b₀ out b =
+    (b ≤ length pad) × (out ≡ written b (λ b. ofTwo (getD items b 0) (getD pad b 0)) out₀) × (length out ≡ length out₀)
 
 abbrev μ-loop : tie.MeasureT-loop
 μ-loop items pad out₀ b₀ out b = length pad - b

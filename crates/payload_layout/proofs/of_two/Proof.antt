@@ -15,11 +15,13 @@ use Rattle.payload_layout.proofs.of_two.Tie as tie
 counted : (c : tie.After-same4)
     → let second = c .before .before in
     let start = second .before .before in
-    majority (second .before .same .result + second .same2 .result) (c .before .same3 .result + c .same4 .result) ≡ ofTwo (start .args .a) (start .args .b)
+    majority (second .before .same .result + second .same2 .result) (c .before .same3 .result + c .same4 .result)
+    ≡ ofTwo (start .args .a) (start .args .b)
 unfolding ofTwo
 counted c =
     let second = c .before .before in
-    ap₂ majority (ap₂ _+_ (second .before .same .ensures) (second .same2 .ensures)) (ap₂ _+_ (c .before .same3 .ensures) (c .same4 .ensures))
+    ap₂ majority (ap₂ _+_ (second .before .same .ensures) (second .same2 .ensures))
+    (ap₂ _+_ (c .before .same3 .ensures) (c .same4 .ensures))
 
 same-requires : tie.Need-same-requires
 same-requires c κs = search needs

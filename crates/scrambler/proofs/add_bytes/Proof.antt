@@ -41,7 +41,8 @@ loop-again c =
     let l = c .before .before .before .loop in
     let z = c .before .before .before .before .args in
     let kept = ap (λ (s : List ℕ). getD s (l .i) 0) (l .inv .1) ∙ getD-kept (l .i) _ _ (l .i) 0 (omega arith) in
-    (search needs, written-next _ _ _ _ _ (l .inv .1) (omega arith) (ap (bitXor (getD (z .bytes .now) (l .i) 0)) kept), simp length-set (l .inv .2))
+    let stored = ap (bitXor (getD (z .bytes .now) (l .i) 0)) kept in
+    (search needs, written-next _ _ _ _ _ (l .inv .1) (omega arith) stored, simp length-set (l .inv .2))
 
 same-length : tie.Need-same-length Inv-loop μ-loop
 same-length c = search needs

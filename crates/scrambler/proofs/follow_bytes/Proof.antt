@@ -15,7 +15,8 @@ use Rattle.scrambler.proofs.follow_bytes.Statement.{statement}
 use Rattle.scrambler.proofs.follow_bytes.Tie as tie
 
 -- the byte that is stored
-stored : (i : ℕ) (was now : List ℕ) → 10 ≤ i → now ≡ written i scramblerByte was → bitXor (getD now (i - 10) 0) (getD now (i - 3) 0) ≡ scramblerByte i
+stored : (i : ℕ) (was now : List ℕ) → 10 ≤ i → now ≡ written i scramblerByte was
+    → bitXor (getD now (i - 10) 0) (getD now (i - 3) 0) ≡ scramblerByte i
 stored i was now h e = ap₂ bitXor (at (i - 10) (omega arith)) (at (i - 3) (omega arith)) ∙ byte-follows i h
   where
     at : (k : ℕ) → k < i → getD now k 0 ≡ scramblerByte k
@@ -29,8 +30,8 @@ abbrev μ-loop : tie.MeasureT-loop
 
 loop-holds : tie.Need-loop-holds Inv-loop μ-loop
 loop-holds c =
-    let z = c in
-    (search needs, search needs, written-of 10 scramblerByte 0 _ _ (omega (arith, z .pre .0, z .pre .1)) refl (z .pre .2) (λ i h. refl), refl)
+    let out = c .args .out .now in
+    (search needs, search needs, written-of 10 scramblerByte 0 out out (omega (arith, c .pre)) refl (c .pre .2) (λ i h. refl), refl)
 
 sub-out : tie.Need-sub-out Inv-loop μ-loop
 sub-out c = search needs
@@ -56,7 +57,8 @@ loop-less c = search needs
 loop-again : tie.Need-loop-again Inv-loop μ-loop
 loop-again c =
     let l = c .before .before .before .loop in
-    (search needs, search needs, written-next _ _ _ _ _ (l .inv .2) (omega arith) (stored _ _ _ (l .inv .0) (l .inv .2)), simp length-set (l .inv .3))
+    let value = stored _ _ _ (l .inv .0) (l .inv .2) in
+    (search needs, search needs, written-next _ _ _ _ _ (l .inv .2) (omega arith) value, simp length-set (l .inv .3))
 
 same-length : tie.Need-same-length Inv-loop μ-loop
 same-length c = search needs

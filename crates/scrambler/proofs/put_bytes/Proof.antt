@@ -25,8 +25,8 @@ step-bytes-requires-2 c κs = search needs
 
 follow-bytes-requires : tie.Need-follow-bytes-requires
 follow-bytes-requires c κs =
-    let steps = c .before .before .before in
-    (search needs, search needs, λ k h. ap (λ (l : List ℕ). getD l k 0) (steps .step-bytes2 .ensures) ∙ getD-written 10 scramblerByte _ k 0 h)
+    let e = c .before .before .before .step-bytes2 .ensures in
+    (search needs, search needs, λ k h. ap (λ (l : List ℕ). getD l k 0) e ∙ getD-written 10 scramblerByte _ k 0 h)
 
 same-length-2 : tie.Need-same-length-2
 same-length-2 c = search needs

@@ -19,7 +19,8 @@ returns c =
     let add = c .before .before in
     let put = add .before .before .before .before in
     let known = put .before .before .before in
-    scramble-added (known .before .args .bytes .now) _ _ _ (λ k. omega (arith, known .shared-slice-known .given k)) (put .put-bytes .ensures) (add .add-bytes .ensures)
+    scramble-added (known .before .args .bytes .now) _ _ _ (λ k. omega (arith, known .shared-slice-known .given k))
+    (put .put-bytes .ensures) (add .add-bytes .ensures)
 
 pub scramble-spec : {M : Type 1} → statement M
 scramble-spec = tie.close (tie.spec put-bytes-requires add-bytes-requires same-length returns)
