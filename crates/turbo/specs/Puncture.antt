@@ -1,7 +1,7 @@
 -- Puncturing: the times t whose parity bits a rate keeps. Assumes nothing.
 use mathlib.Core.Bool.{Bool, _&&_}
 use mathlib.Core.List.{[], _∷_}
-use Prim.Native.Nat.{ℕ, _-_, _*_, _%_}
+use Prim.Native.Nat.{ℕ, _+_, _-_, _*_, _%_}
 use lib.Dec.{eqb}
 use lib.ListN.{getD}
 use Rattle.bits.specs.Bits.{bitAt}
@@ -16,6 +16,10 @@ row rate = getD (0b1111111111111111 ∷ 0b1000000010000000 ∷ []) rate 0
 -- t is kept: the row has a 1 at place t mod 16, counted from the left
 unfoldable pub kept : ℕ → ℕ → Bool
 kept rate t = eqb (bitAt (15 - t % 16) (row rate)) 1
+
+-- how far it is from t to the next time that is kept, or to the end of its row of sixteen
+unfoldable pub strideAt : ℕ → ℕ → ℕ
+strideAt rate t = 1 + lowest (15 - t % 16) (λ k. kept rate (t + 1 + k))
 
 -- the time that is kept after j others
 unfoldable pub keptTime : ℕ → ℕ → ℕ → ℕ

@@ -17,7 +17,7 @@ ghost use Rattle.turbo.specs.Encoder.{next, parity, startOf};
 ghost use Rattle.turbo.specs.Bytes.{pairIn, fourFrom, byteWord, Doubling, ByBytes, ByStates};
 ghost use Rattle.turbo.specs.Interleave.{starts, exchanged};
 ghost use Rattle.turbo.specs.Gather.{twice, placeIn, picked, byRows, exchangedByte, SumsFit, StartsBelow, Gathering, Interleaving};
-ghost use Rattle.turbo.specs.Puncture.{row, kept, keptCount};
+ghost use Rattle.turbo.specs.Puncture.{row, kept, strideAt, keptCount};
 ghost use Rattle.turbo.specs.Parity.{inputOf, keptBit, bothBits, punctured, Inputs, Started};
 
 // The tables S of all kinds, one after the other, and where each starts and ends.
@@ -315,6 +315,16 @@ fn is_kept(rate: usize, t: usize) -> bool
     (row >> (15 - t % 16)) % 2 == 1
 }
 
+// How far it is from t to the next time that is kept, or to the end of its row.
+fn stride(rate: usize, t: usize) -> usize
+    requires { ⌜ rate < 2 ⌝ }
+    ensures { λ r. ⌜ r ≡ strideAt rate t ⌝ }
+{
+    let row = KEPT[rate];
+    let after = row % (1u16 << (15 - t % 16));
+    u16::leading_zeros(after) as usize - t % 16
+}
+
 // Whether the parity bits of every time are kept.
 fn keeps_all(rate: usize) -> bool
     requires { ⌜ rate < 2 ⌝ }
@@ -489,7 +499,7 @@ fn keep(kind: usize, rate: usize, packed: &[u8], out: &mut [u8])
             out[n + 1] = bits::bit_of(packed, 2 * t + 1);
             n += 2;
         }
-        t += 1;
+        t += stride(rate, t);
     }
 }
 

@@ -15,7 +15,7 @@ use Rattle.turbo.specs.Pairs.{pairCount}
 use Rattle.turbo.specs.Puncture.{kept, keptCount}
 use Rattle.turbo.specs.Parity.{punctured}
 use Rattle.turbo.proofs.StepLaws.{few-pairs}
-use Rattle.turbo.proofs.PunctureLaws.{kept-room}
+use Rattle.turbo.proofs.PunctureLaws.{kept-room, row-within-block, stride-fits, stride-count}
 use Rattle.turbo.proofs.ParityLaws.{kept-turn}
 use Rattle.turbo.proofs.keep.Statement.{statement}
 use Rattle.turbo.proofs.keep.Tie as tie
@@ -91,12 +91,18 @@ slice-write-out-2 c = simp length-set (omega (arith, room (c .before .before)))
 add-n : tie.Need-add-n Inv-loop μ-loop
 add-n c = omega (arith, few (c .before .before))
 
+stride-requires : tie.Need-stride-requires Inv-loop μ-loop
+stride-requires c κs = c .before .before .before .before .before .before .before .pre .1
+
 add-t : tie.Need-add-t Inv-loop μ-loop
 add-t c =
-    let i = c .before .before in omega (arith, in-block i, few-pairs (entry i .args .kind) (entry i .pre .0))
+    let i = c .before .before .before in
+    omega (arith, in-block i, c .stride .ensures, stride-fits (entry i .args .rate) (i .before .loop .t), few-pairs (entry i .args .kind) (entry i .pre .0))
 
 loop-less : tie.Need-loop-less Inv-loop μ-loop
-loop-less c = search needs
+loop-less c =
+    let i = c .before .before .before in
+    omega (arith, i .loop-test .taken, c .stride .ensures, stride-fits (entry i .args .rate) (i .before .loop .t))
 
 -- where the branches meet
 joined : (c : tie.Joined1 Inv-loop μ-loop)
@@ -127,7 +133,17 @@ joined c =
     (c .if1 .came)
 
 loop-again : tie.Need-loop-again Inv-loop μ-loop
-loop-again c = let j = joined c in (omega (arith, c .before .before .loop-test .taken), j .0, j .1, j .2)
+loop-again c =
+    let i = c .before .before .before in
+    let z = entry i in
+    let t : ℕ = i .before .loop .t in
+    let j = joined (c .before) in (
+      row-within-block (z .args .kind) t _ _ (z .pre .0) (i .loop-test .taken) (i .before .before .pairs .ensures)
+          (omega (arith, c .stride .ensures, stride-fits (z .args .rate) t)),
+      j .0 ∙ ap (_*_ 2) (sym (stride-count (z .args .rate) t) ∙ ap (λ (n : ℕ). count (t + n) (kept (z .args .rate))) (sym (c .stride .ensures))),
+      j .1,
+      j .2,
+    )
 
 same-length : tie.Need-same-length Inv-loop μ-loop
 same-length c = search needs
@@ -158,6 +174,7 @@ keep-spec =
     add-out
     slice-write-out-2
     add-n
+    stride-requires
     add-t
     loop-less
     loop-again
