@@ -48,6 +48,23 @@ module _ (L : Layout) (S : Sound L) where
       let t : ltb (L .lead) e ≡ true = lt-ltb (L .lead) e h in
       (rw (p, q, t), rw (p, q, t), rw (q, t))
 
+  -- the counts after a nibble that is not before the parity nibble
+  after : (n : ℕ) → L .lead ≤ placeIn L n
+      → Counts L (n + 1) (groupOf L n * L .group + placeIn L n) (groupOf L n + 1) (L .lead + L .group - placeIn L n)
+  after n l =
+      let g = groupOf L n in
+      let e = placeIn L n in
+      lt-cases (e + 1) (L .group + 1)
+      (λ m.
+      let (i, j) = next-in n m in
+      let (d, p, u) = past (n + 1) g (e + 1) i j (omega arith) in
+      (omega arith, p, omega arith))
+      (λ m.
+      let z : e ≡ L .group = omega (arith, place-lt L S n) in
+      let (i, j) = next-over n z in
+      let (d, p, u) = before (n + 1) (g + 1) zero i j (omega arith) in
+      (omega (arith, add-mul g 1 (L .group)), p, omega arith))
+
   -- past a data nibble
   pub data-step : (n : ℕ) → isParity L n ≡ false → Counts L (n + 1) (dataPlace L n + 1) (parityPlace L n) (untilParity L n - 1)
   data-step n t =
@@ -62,34 +79,16 @@ module _ (L : Layout) (S : Sound L) where
       (omega arith, omega arith, omega arith))
       (λ l.
       let (d, p, u) = past n g e refl refl (omega arith) in
-      lt-cases (e + 1) (L .group + 1)
-      (λ m.
-      let (i, j) = next-in n m in
-      let (d′, p′, u′) = past (n + 1) g (e + 1) i j (omega arith) in
+      let (d′, p′, u′) = after n l in
       (omega arith, omega arith, omega arith))
-      (λ m.
-      let z : e ≡ L .group = omega (arith, place-lt L S n) in
-      let (i, j) = next-over n z in
-      let (d′, p′, u′) = before (n + 1) (g + 1) zero i j (omega arith) in
-      (omega (arith, add-mul g 1 (L .group)), omega arith, omega arith)))
 
   -- past a parity nibble
   pub parity-step : (n : ℕ) → isParity L n ≡ true → Counts L (n + 1) (dataPlace L n) (parityPlace L n + 1) (L .group)
   parity-step n t =
-      let g = groupOf L n in
-      let e = placeIn L n in
-      let here : e ≡ L .lead = eqb-true e (L .lead) t in
-      let (d, p, u) = before n g e refl refl (omega arith) in
-      lt-cases (e + 1) (L .group + 1)
-      (λ m.
-      let (i, j) = next-in n m in
-      let (d′, p′, u′) = past (n + 1) g (e + 1) i j (omega arith) in
-      (omega arith, omega arith, omega arith))
-      (λ m.
-      let z : e ≡ L .group = omega (arith, place-lt L S n) in
-      let (i, j) = next-over n z in
-      let (d′, p′, u′) = before (n + 1) (g + 1) zero i j (omega arith) in
-      (omega (arith, add-mul g 1 (L .group)), omega arith, omega arith))
+      let here : placeIn L n ≡ L .lead = eqb-true (placeIn L n) (L .lead) t in
+      let (d, p, u) = before n (groupOf L n) (placeIn L n) refl refl (omega arith) in
+      let (d′, p′, u′) = after n (omega arith) in
+      (omega arith, omega arith, omega arith)
 
   -- a parity nibble is due where none of data comes first, and its row is that of its group
   pub parity-due : (n : ℕ) → untilParity L n ≡ zero → isParity L n ≡ true
@@ -99,6 +98,12 @@ module _ (L : Layout) (S : Sound L) where
       (lt-cases (L .lead) e
       (λ l. let (d, p, u) = past n (groupOf L n) e refl refl l in absurd (omega (arith, place-lt L S n)))
       (λ l. let (d, p, u) = before n (groupOf L n) e refl refl l in omega arith))
+
+  pub until-le : (n : ℕ) → untilParity L n ≤ L .group
+  until-le n =
+      lt-cases (L .lead) (placeIn L n)
+      (λ l. let (d, p, u) = past n (groupOf L n) (placeIn L n) refl refl l in omega arith)
+      (λ l. let (d, p, u) = before n (groupOf L n) (placeIn L n) refl refl l in omega (arith, S .lead-le))
 
   pub data-due : (n : ℕ) → zero < untilParity L n → isParity L n ≡ false
   data-due n z =

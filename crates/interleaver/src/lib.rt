@@ -4,13 +4,13 @@
 // Internal: nothing here is a public entry. A function with a `requires` is called only where its caller has shown it.
 ghost use mathlib.Core.Path.{_≡_};
 ghost use mathlib.Core.Bool.{true, false, cond};
-ghost use Prim.Native.Nat.{ℕ, _+_, _-_, _*_, _%_, _<_, _≤_};
+ghost use Prim.Native.Nat.{ℕ, _+_, _-_, _*_, _%_, _<_, _≤_, min};
 ghost use lib.ListN.{length, getD};
 ghost use Rattle.bits.specs.Lists.{written};
 ghost use Rattle.interleaver.specs.Rows.{passes, movedRow};
 ghost use Rattle.interleaver.specs.Layouts.{Defined, Sound, Small, Near, Paired, layoutOf};
 ghost use Rattle.interleaver.specs.Source.{isParity, dataPlace, column, codedOf, codedBits, source, codedAt};
-ghost use Rattle.interleaver.specs.Walks.{Stands, Runs};
+ghost use Rattle.interleaver.specs.Walks.{OnPass, parityPlace, untilParity, Stands, Runs};
 ghost use Rattle.interleaver.specs.Stores.{byteOf, stored, target, origin, carried};
 
 // The numbers of the interleaver at one kind and rate.
@@ -159,6 +159,36 @@ fn move_parity(l: Layout, at: Stand, back: bool, from: &[u8], to: &mut [u8]) -> 
     }
 }
 
+// Data nibbles of a pass, as long as the row is below `end`, with no parity nibble among them.
+fn move_data(l: Layout, start: Run, end: usize, back: bool, from: &[u8], to: &mut [u8]) -> Run
+    requires { ⌜ (Sound l) × (Small l) × (start .pass < l .step) × (end ≤ l .rows) × (start .nibble ≤ l .rows + l .parity)
+        × (OnPass (l .rows) (l .step) (dataPlace l (start .nibble)) (start .pass) (start .row))
+        × (end ≤ start .row + untilParity l (start .nibble) * l .step)
+        × (length (now from) ≡ codedOf l) × (codedOf l ≤ length (now to)) ⌝ }
+    ensures stands { λ r. ⌜ (start .nibble ≤ r .nibble) × (r .nibble ≤ l .rows + l .parity)
+        × (OnPass (l .rows) (l .step) (dataPlace l (r .nibble)) (start .pass) (r .row)) × (end ≤ r .row)
+        × (parityPlace l (r .nibble) ≡ parityPlace l (start .nibble))
+        × (untilParity l (r .nibble) + r .nibble ≡ untilParity l (start .nibble) + start .nibble) ⌝ }
+    ensures moved { λ r. ⌜ now (to .exit) ≡ carried l back (now (from .entry)) (start .nibble) (r .nibble) (now (to .entry)) ⌝ }
+{
+    let pass = start.pass;
+    let mut nibble = start.nibble;
+    let mut row = start.row;
+    while row < end {
+        move_nibble(nibble, row, l.rows, back, from, to);
+        nibble += 1;
+        row += l.step;
+    }
+    Run { nibble, row, pass }
+}
+
+// The lesser of the two.
+fn least(a: usize, b: usize) -> usize
+    ensures { λ r. ⌜ r ≡ min a b ⌝ }
+{
+    if a < b { a } else { b }
+}
+
 // The data nibbles of a pass, and the parity nibbles before each of them.
 fn move_pass(l: Layout, pass: usize, start: Stand, back: bool, from: &[u8], to: &mut [u8]) -> Stand
     requires { ⌜ (Sound l) × (Small l) × (Near l) × (l .continuous ≡ true) × (Stands l start) × (pass < l .step)
@@ -171,13 +201,19 @@ fn move_pass(l: Layout, pass: usize, start: Stand, back: bool, from: &[u8], to: 
     let mut row = pass;
     while row < l.rows {
         let data = move_parity(l, at, back, from, to);
-        move_nibble(data.nibble, row, l.rows, back, from, to);
+        let first = Run {
+            nibble: data.nibble,
+            row,
+            pass,
+        };
+        let end = least(l.rows, row + data.left * l.step);
+        let last = move_data(l, first, end, back, from, to);
         at = Stand {
-            nibble: data.nibble + 1,
-            left: data.left - 1,
+            nibble: last.nibble,
+            left: data.left + data.nibble - last.nibble,
             row: data.row,
         };
-        row += l.step;
+        row = last.row;
     }
     at
 }

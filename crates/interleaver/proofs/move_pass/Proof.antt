@@ -1,19 +1,19 @@
 -- `interleaver::move_pass` meets its contract. The invariant: the stream's next data nibble is at this row of the pass, and the nibbles
 -- before it are carried. Assumes nothing.
-use mathlib.Core.Path.{_≡_, refl, ap, _∙_}
-use mathlib.Core.Bool.{false}
+use mathlib.Core.Path.{_≡_, refl, sym, ap, _∙_}
 use Prim.Native.Nat.{ℕ, _+_, _-_, _*_, _<_, _≤_}
+use native.Mathlib.Nat.{one-mul, mul-le-mul, mul-le-mul-right}
 use native.Mathlib.Omega.{arith}
+use borrow.Author.Needs.{needs}
 use denote.Ref.{now}
 use lib.ListN.{length}
-use Rattle.interleaver.specs.Rows.{passRow}
-use Rattle.interleaver.specs.Source.{dataPlace, isParity, nibbleBit, codedOf}
+use Rattle.interleaver.specs.Rows.{passRow, continuousRow}
+use Rattle.interleaver.specs.Source.{dataPlace}
 use Rattle.interleaver.specs.Stores.{carried}
 use Rattle.interleaver.specs.Walks.{OnPass, Stands}
-use Rattle.interleaver.proofs.SourceLaws.{bit-data}
-use Rattle.interleaver.proofs.WalkLaws.{on-start, pass-on, pass-end, row-at}
-use Rattle.interleaver.proofs.StreamLaws.{data-step, data-due, parity-passed, stream-on}
-use Rattle.interleaver.proofs.NibbleLaws.{carried-none, carried-join, carried-one}
+use Rattle.interleaver.proofs.WalkLaws.{on-start, pass-end, row-at}
+use Rattle.interleaver.proofs.StreamLaws.{until-le, parity-passed, stream-on}
+use Rattle.interleaver.proofs.NibbleLaws.{carried-none, carried-join}
 use Rattle.interleaver.proofs.move_pass.Statement.{statement}
 use Rattle.interleaver.proofs.move_pass.Tie as tie
 
@@ -62,76 +62,98 @@ turn c = c .before .before
 -- past the parity nibble stands that data nibble
 data-of : (c : tie.After-move-parity Inv-loop μ-loop)
     → (dataPlace (entry (turn c) .args .l) (c .move-parity .result .nibble) ≡ dataPlace (entry (turn c) .args .l) (turn c .before .before .loop .at .nibble))
-    × (isParity (entry (turn c) .args .l) (c .move-parity .result .nibble) ≡ false)
     × (c .move-parity .result .nibble < entry (turn c) .args .l .rows + entry (turn c) .args .l .parity)
 data-of c =
     let s = entry (turn c) in
     let l = s .args .l in
     let m = c .move-parity in
-    let e = parity-passed l (s .pre .0) (turn c .before .before .loop .at .nibble) (m .result .nibble) (m .ensures .0 .0) in (
-      e,
-      data-due l (s .pre .0) (m .result .nibble) (omega (arith, m .ensures .0 .1 .left-is, m .ensures .0 .2)),
-      stream-on l (s .pre .0) (m .result .nibble) (omega (arith, e, row-of (turn c) .1)),
-    )
+    let e = parity-passed l (s .pre .0) (turn c .before .before .loop .at .nibble) (m .result .nibble) (m .ensures .0 .0) in
+    (e, stream-on l (s .pre .0) (m .result .nibble) (omega (arith, e, row-of (turn c) .1)))
 
-move-nibble-requires : tie.Need-move-nibble-requires Inv-loop μ-loop
-move-nibble-requires c κs =
-    let m = c .before .before .before in
-    let s = entry (turn m) in
-    let n = data-of m .2 in
-    let room : codedOf (s .args .l) ≤ length (m .move-parity .last .1 .1 .1 .1 .0) =
-    omega (arith, s .pre .8, turn m .before .before .loop .inv .3, m .move-parity .kept .1 .1 .1 .1 .0) in
-    let row = turn m .if1 .taken in
-    (omega arith, omega (arith, s .pre .7), omega arith, omega (arith, s .pre .7), omega arith)
+-- how far the data nibbles reach before the next parity nibble
+reach-le : (c : tie.After-move-parity Inv-loop μ-loop) → (c .move-parity .result .left * entry (turn c) .args .l .step ≤ 65535 * 65535) × (c .move-parity .result .left ≤ 65535)
+reach-le c =
+    let s = entry (turn c) in
+    let l = s .args .l in
+    let m = c .move-parity in
+    let h : m .result .left ≤ 65535 =
+    omega (arith, m .ensures .0 .1 .left-is, until-le l (s .pre .0) (m .result .nibble), s .pre .1 .group-lt) in
+    (mul-le-mul {n₁ = m .result .left} {m₁ = l .step} {n₂ = 65535} {m₂ = 65535} h (omega (arith, s .pre .1 .step-lt)), h)
+
+mul-least : tie.Need-mul-least Inv-loop μ-loop
+mul-least c = omega (arith, reach-le (c .before .before .before .before))
+
+add-least : tie.Need-add-least Inv-loop μ-loop
+add-least c =
+    let m = c .before .before .before .before in
+    omega (arith, reach-le m, turn m .if1 .taken, entry (turn m) .pre .1)
+
+least-requires : tie.Need-least-requires Inv-loop μ-loop
+least-requires c κs = search needs
+
+move-data-requires : tie.Need-move-data-requires Inv-loop μ-loop
+move-data-requires c κs =
+    let m = c .before .before .before .before .before .before in
+    let t = turn m in
+    let s = entry t in
+    let l = s .args .l in
+    let (place, n) = data-of m in
+    let d = m .move-parity in (
+      s .pre .0,
+      s .pre .1,
+      s .pre .5,
+      omega (arith, c .before .least .ensures),
+      omega arith,
+      rw place (t .before .before .loop .inv .0),
+      omega (arith, c .before .least .ensures, ap (λ (x : ℕ). x * l .step) (d .ensures .0 .1 .left-is)),
+      s .pre .7,
+      omega (arith, s .pre .8, t .before .before .loop .inv .3, d .kept .1 .1 .1 .1 .0),
+    )
 
 add-t16 : tie.Need-add-t16 Inv-loop μ-loop
 add-t16 c =
-    let m = c .before .before .before .before .before .before .before in
-    omega (arith, data-of m .2, entry (turn m) .pre .1)
+    let m = c .before .before .before .before .before .before .before .before .before .before in
+    omega (arith, reach-le m .1, data-of m .1, entry (turn m) .pre .1)
 
 sub-t17 : tie.Need-sub-t17 Inv-loop μ-loop
 sub-t17 c =
-    let m = c .before .before .before .before .before .before .before .before in
-    omega (arith, m .move-parity .ensures .0 .2)
-
-add-row : tie.Need-add-row Inv-loop μ-loop
-add-row c =
-    let t = turn (c .before .before .before .before .before .before .before .before .before) in
-    omega (arith, t .if1 .taken, entry t .pre .1)
+    let x = c .before .before .before .before .move-data in
+    let m = c .before .before .before .before .before .before .before .before .before .before .before in
+    omega (arith, x .ensures .0 .5, m .move-parity .ensures .0 .1 .left-is)
 
 loop-less : tie.Need-loop-less Inv-loop μ-loop
 loop-less c =
-    let t = turn (c .before .before .before .before .before .before .before .before .before) in
-    omega (arith, t .if1 .taken, entry t .pre .0 .step-pos)
+    let x = c .before .before .before .before .move-data in
+    let m = c .before .before .before .before .before .before .before .before .before .before .before in
+    let t = turn m in
+    let some : entry t .args .l .step ≤ m .move-parity .result .left * entry t .args .l .step =
+    omega (arith, one-mul (entry t .args .l .step), mul-le-mul-right {m = 1} {n = m .move-parity .result .left} (entry t .args .l .step) (m .move-parity .ensures .0 .2)) in
+    omega (arith, x .ensures .0 .3, c .before .before .before .before .before .before .least .ensures, t .if1 .taken, entry t .pre .0 .step-pos)
 
 loop-again : tie.Need-loop-again Inv-loop μ-loop
 loop-again c =
-    let m = c .before .before .before .before .before .before .before .before .before in
+    let x = c .before .before .before .before .move-data in
+    let m = c .before .before .before .before .before .before .before .before .before .before .before in
     let t = turn m in
     let s = entry t in
     let l = s .args .l in
     let i = t .before .before .loop in
     let d = m .move-parity in
     let n = d .result .nibble in
-    let x = c .before .before .before .before .before .move-nibble in
-    let (place, there, within) = data-of m in
-    let (places, parity, left) = data-step l (s .pre .0) n there in
     let from = now (s .args .from) in
-    let bits : (k : ℕ) → k * l .rows + i .row ≡ nibbleBit l n k =
-    λ k. omega (arith, row-of t .0, ap (passRow (l .rows) (l .step)) place, bit-data l (s .pre .0) n k there) in
-    let on : dataPlace l (i .at .nibble) + 1 ≡ dataPlace l (n + 1) = omega arith in
     let up : i .at .nibble ≤ n = omega (arith, d .ensures .0 .0) in (
-      rw on at (pass-on (l .rows) (l .step) (s .pre .0 .step-pos) (dataPlace l (i .at .nibble)) (s .args .pass) (i .row) (i .inv .0) (t .if1 .taken)),
+      x .ensures .0 .2,
       record {
-        within = omega arith;
-        left-is = omega (arith, left, d .ensures .0 .1 .left-is);
-        row-is = rw parity (d .ensures .0 .1 .row-is);
+        within = x .ensures .0 .1;
+        left-is = omega (arith, x .ensures .0 .5, d .ensures .0 .1 .left-is);
+        row-is = d .ensures .0 .1 .row-is
+            ∙ ap (continuousRow (l .parity) (l .step) (l .offset)) (sym (x .ensures .0 .4));
       },
-      omega (arith, i .inv .2),
+      omega (arith, i .inv .2, x .ensures .0 .0),
       x .kept .1 .1 .1 .1 .1 .0 ∙ d .kept .1 .1 .1 .1 .0 ∙ i .inv .3,
-      carried-join l (s .args .back) from (s .args .start .nibble) n (n + 1) (now (s .args .to)) _ _ (omega (arith, i .inv .2)) (omega arith)
+      carried-join l (s .args .back) from (s .args .start .nibble) n (x .result .nibble) (now (s .args .to)) _ _ (omega (arith, i .inv .2)) (x .ensures .0 .0)
           (carried-join l (s .args .back) from (s .args .start .nibble) (i .at .nibble) n (now (s .args .to)) _ _ (i .inv .2) up (i .inv .4) (d .ensures .1))
-          (carried-one l (s .args .back) from n (i .row) (l .rows) _ _ bits (x .ensures)),
+          (x .ensures .1),
     )
 
 same-length : tie.Need-same-length Inv-loop μ-loop
@@ -158,10 +180,12 @@ move-pass-spec =
     μ-loop
     loop-holds
     move-parity-requires
-    move-nibble-requires
+    mul-least
+    add-least
+    least-requires
+    move-data-requires
     add-t16
     sub-t17
-    add-row
     loop-less
     loop-again
     same-length
