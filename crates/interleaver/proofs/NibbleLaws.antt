@@ -1,5 +1,5 @@
 -- Nibbles carried from source bits to coded bits, or back. Assumes nothing.
-use mathlib.Core.Path.{_≡_, refl, sym, ap, _∙_}
+use mathlib.Core.Path.{_≡_, refl, sym, ap, ap₂, _∙_}
 use mathlib.Core.Bool.{Bool, true, false, cond}
 use mathlib.Core.List.{List}
 use Prim.Native.Nat.{ℕ, zero, _+_, _-_, _*_, _/_, _%_, _<_, _≤_}
@@ -14,6 +14,12 @@ use Rattle.interleaver.specs.Stores.{byteOf, stored, target, origin, car
 use Rattle.interleaver.proofs.SourceLaws.{column-apart, column-source}
 use Rattle.interleaver.proofs.StoreLaws.{stored-none, stored-append, stored-ext, stored-reordered}
 
+-- the buffer after nibble n, whose source bit of column c is c * height + first, is moved
+abbrev Moved : ℕ → ℕ → ℕ → Bool → List ℕ → List ℕ → List ℕ → Type 0
+Moved n first height back from to now =
+    now ≡ stored 4 (λ b. cond back (column n b * height + first) (n * 4 + b))
+    (λ b. getD from (cond back (n * 4 + b) (column n b * height + first)) 0) to
+
 columns-permute : (n : ℕ) → Permutes 4 (column n)
 columns-permute n = record { below = λ b h. omega arith; apart = column-apart n }
 
@@ -22,18 +28,19 @@ module _ (n first height : ℕ) (back : Bool) (from to now : List ℕ) (word x :
   pub nibble-out : back ≡ false → ((c : ℕ) → c < 4 → byteOf word c ≡ getD from (c * height + first) 0)
       → ((b : ℕ) → b < 4 → byteOf x b ≡ byteOf word (column n b))
       → now ≡ stored 4 (λ b. b * 1 + n * 4) (byteOf x) to
-      → now ≡ stored 4 (λ b. cond back (column n b * height + first) (n * 4 + b)) (λ b. getD from (cond back (n * 4 + b) (column n b * height + first)) 0) to
+      → Moved n first height back from to now
   nibble-out way read turned e =
       rw way
       (e
-      ∙ stored-ext 4 _ _ _ _ to (λ b h. let z : b * 1 + n * 4 ≡ n * 4 + b = omega arith in z) (λ b h. turned b h ∙ read (column n b) (omega arith)))
+      ∙ stored-ext 4 _ _ _ _ to (λ b h. let z : b * 1 + n * 4 ≡ n * 4 + b = omega arith in z)
+      (λ b h. turned b h ∙ read (column n b) (omega arith)))
 
   -- a word read from the coded bits and turned on the way back
   pub nibble-back : back ≡ true → zero < height → first + 3 * height < length to
       → ((b : ℕ) → b < 4 → byteOf word b ≡ getD from (b * 1 + n * 4) 0)
       → ((c : ℕ) → c < 4 → byteOf x c ≡ byteOf word ((c + (4 - (4 - n / 2 % 4) % 4)) % 4))
       → now ≡ stored 4 (λ c. c * height + first) (byteOf x) to
-      → now ≡ stored 4 (λ b. cond back (column n b * height + first) (n * 4 + b)) (λ b. getD from (cond back (n * 4 + b) (column n b * height + first)) 0) to
+      → Moved n first height back from to now
   nibble-back way pos room read turned e =
       rw way
       (e ∙ stored-reordered 4 (column n) (λ c. c * height + first) (byteOf x) to (columns-permute n) apart within
@@ -52,54 +59,62 @@ module _ (n first height : ℕ) (back : Bool) (from to now : List ℕ) (word x :
           turned (column n b) (omega arith) ∙ ap (byteOf word) i ∙ read b h ∙ ap (λ (y : ℕ). getD from y 0) j
 
 module _ (L : Layout) (back : Bool) (from : List ℕ) where
+  -- where bit i is stored, and what is stored there
+  abbrev place : ℕ → ℕ
+  place i = target back (sourceOf L) i
+
+  abbrev value : ℕ → ℕ
+  value i = getD from (origin back (sourceOf L) i) 0
+
+  -- a run of bits, by how many and from which on
+  abbrev run : ℕ → ℕ → List ℕ → List ℕ
+  run count first to = stored count (λ i. place (first + i)) (λ i. value (first + i)) to
+
   pub carried-none : (n : ℕ) (to : List ℕ) → to ≡ carried L back from n n to
   unfolding carried
   carried-none n to =
       let e : 0 ≡ (n - n) * 4 = omega arith in
-      stored-none (λ i. target back (sourceOf L) (n * 4 + i)) (λ i. getD from (origin back (sourceOf L) (n * 4 + i)) 0) to
-      ∙ ap (λ (k : ℕ). stored k (λ i. target back (sourceOf L) (n * 4 + i)) (λ i. getD from (origin back (sourceOf L) (n * 4 + i)) 0) to) e
+      stored-none (λ i. place (n * 4 + i)) (λ i. value (n * 4 + i)) to ∙ ap (λ (k : ℕ). run k (n * 4) to) e
 
   -- nibbles n to m - 1, and then m to k - 1
-  pub carried-join : (n m k : ℕ) (to then end : List ℕ) → n ≤ m → m ≤ k → then ≡ carried L back from n m to → end ≡ carried L back from m k then
-      → end ≡ carried L back from n k to
+  pub carried-join : (n m k : ℕ) (to then end : List ℕ) → n ≤ m → m ≤ k
+      → then ≡ carried L back from n m to → end ≡ carried L back from m k then → end ≡ carried L back from n k to
   unfolding carried
   carried-join n m k to then end h l e d =
       let at : (i : ℕ) → m * 4 + i ≡ n * 4 + ((m - n) * 4 + i) = λ i. omega arith in
       let count : (m - n) * 4 + (k - m) * 4 ≡ (k - n) * 4 = omega arith in
       d
-      ∙ stored-ext ((k - m) * 4) _ _ (λ i. target back (sourceOf L) (n * 4 + ((m - n) * 4 + i))) (λ i. getD from (origin back (sourceOf L) (n * 4 + ((m - n) * 4 + i))) 0) then
-      (λ i b. ap (target back (sourceOf L)) (at i)) (λ i b. ap (λ (y : ℕ). getD from (origin back (sourceOf L) y) 0) (at i))
-      ∙ ap
-      (stored ((k - m) * 4) (λ i. target back (sourceOf L) (n * 4 + ((m - n) * 4 + i))) (λ i. getD from (origin back (sourceOf L) (n * 4 + ((m - n) * 4 + i))) 0)) e
-      ∙ sym
-      (stored-append ((m - n) * 4) ((k - m) * 4) (λ i. target back (sourceOf L) (n * 4 + i)) (λ i. getD from (origin back (sourceOf L) (n * 4 + i)) 0) to)
-      ∙ ap (λ (c : ℕ). stored c (λ i. target back (sourceOf L) (n * 4 + i)) (λ i. getD from (origin back (sourceOf L) (n * 4 + i)) 0) to) count
+      ∙ stored-ext ((k - m) * 4) _ _ (λ i. place (n * 4 + ((m - n) * 4 + i))) (λ i. value (n * 4 + ((m - n) * 4 + i))) then
+      (λ i b. ap place (at i)) (λ i b. ap value (at i))
+      ∙ ap (stored ((k - m) * 4) (λ i. place (n * 4 + ((m - n) * 4 + i))) (λ i. value (n * 4 + ((m - n) * 4 + i)))) e
+      ∙ sym (stored-append ((m - n) * 4) ((k - m) * 4) (λ i. place (n * 4 + i)) (λ i. value (n * 4 + i)) to)
+      ∙ ap (λ (c : ℕ). run c (n * 4) to) count
 
   -- one nibble, by its columns
   pub carried-one : (n first height : ℕ) (to now : List ℕ) → ((c : ℕ) → c * height + first ≡ nibbleBit L n c)
-      → now ≡ stored 4 (λ b. cond back (column n b * height + first) (n * 4 + b)) (λ b. getD from (cond back (n * 4 + b) (column n b * height + first)) 0) to
-      → now ≡ carried L back from n (n + 1) to
+      → Moved n first height back from to now → now ≡ carried L back from n (n + 1) to
   unfolding carried
   carried-one n first height to now bits e =
       let one : 4 ≡ (n + 1 - n) * 4 = omega arith in
       e
-      ∙ stored-ext 4 _ _ (λ i. target back (sourceOf L) (n * 4 + i)) (λ i. getD from (origin back (sourceOf L) (n * 4 + i)) 0) to
+      ∙ stored-ext 4 _ _ (λ i. place (n * 4 + i)) (λ i. value (n * 4 + i)) to
       (λ b h. ap (λ (y : ℕ). cond back y (n * 4 + b)) (column-source L n b first height bits h))
       (λ b h. ap (λ (y : ℕ). getD from (cond back (n * 4 + b) y) 0) (column-source L n b first height bits h))
-      ∙ ap (λ (k : ℕ). stored k (λ i. target back (sourceOf L) (n * 4 + i)) (λ i. getD from (origin back (sourceOf L) (n * 4 + i)) 0) to) one
+      ∙ ap (λ (k : ℕ). run k (n * 4) to) one
+
+  pub carried-all : (to now : List ℕ) → now ≡ carried L back from 0 (L .rows + L .parity) to → now ≡ stored (codedOf L) place value to
+  unfolding carried
+  carried-all to now d =
+      let count : (L .rows + L .parity - 0) * 4 ≡ codedOf L = omega arith in
+      let start : (i : ℕ) → 0 * 4 + i ≡ i = λ i. omega arith in
+      d ∙ stored-ext ((L .rows + L .parity - 0) * 4) _ _ place value to (λ i b. ap place (start i)) (λ i b. ap value (start i))
+      ∙ ap (λ (k : ℕ). stored k place value to) count
 
 -- all nibbles of a block of a kind and rate, and the way that they were carried
-pub carried-all : (kind rate : ℕ) (back way : Bool) (from to now : List ℕ) (L : Layout) → L ≡ layoutOf kind rate → back ≡ way
+pub carried-block : (kind rate : ℕ) (back way : Bool) (from to now : List ℕ) (L : Layout) → L ≡ layoutOf kind rate → back ≡ way
     → now ≡ carried L way from 0 (L .rows + L .parity) to
     → now ≡ stored (codedBits kind rate) (target back (source kind rate)) (λ i. getD from (origin back (source kind rate) i) 0) to
-unfolding carried codedBits source
-carried-all kind rate back way from to now L e t d =
-    d
-    ∙ stored-ext ((L .rows + L .parity - 0) * 4) _ _ (target way (sourceOf L)) (λ i. getD from (origin way (sourceOf L) i) 0) to
-    (λ i b. ap (target way (sourceOf L)) (start i)) (λ i b. ap (λ (y : ℕ). getD from (origin way (sourceOf L) y) 0) (start i))
-    ∙ ap (λ (k : ℕ). stored k (target way (sourceOf L)) (λ i. getD from (origin way (sourceOf L) i) 0) to) (let z : (L .rows + L .parity - 0) * 4 ≡ codedOf L = omega arith in z)
-    ∙ ap (λ (K : Layout). stored (codedOf K) (target way (sourceOf K)) (λ i. getD from (origin way (sourceOf K) i) 0) to) e
-    ∙ ap (λ (b : Bool). stored (codedOf (layoutOf kind rate)) (target b (sourceOf (layoutOf kind rate))) (λ i. getD from (origin b (sourceOf (layoutOf kind rate)) i) 0) to) (sym t)
-  where
-    start : (i : ℕ) → 0 * 4 + i ≡ i
-    start i = omega arith
+unfolding codedBits source
+carried-block kind rate back way from to now L e t d =
+    carried-all L way from to now d
+    ∙ ap₂ (λ (K : Layout) (b : Bool). stored (codedOf K) (target b (sourceOf K)) (λ i. getD from (origin b (sourceOf K) i) 0) to) e (sym t)

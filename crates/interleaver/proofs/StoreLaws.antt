@@ -79,7 +79,9 @@ stored-at (suc n) w v out one k h l =
 pub stored-reordered : (n : ℕ) (o w v : ℕ → ℕ) (out : List ℕ) → Permutes n o → ((j k : ℕ) → j < n → k < n → w j ≡ w k → j ≡ k)
     → ((k : ℕ) → k < n → w k < length out) → stored n w v out ≡ stored n (λ k. w (o k)) (λ k. v (o k)) out
 stored-reordered n o w v out P one room =
-    ext-getD 0 (stored n w v out) (stored n (λ k. w (o k)) (λ k. v (o k)) out) (length-stored n w v out ∙ sym (length-stored n (λ k. w (o k)) (λ k. v (o k)) out)) (λ x l.
+    ext-getD 0 (stored n w v out) (stored n (λ k. w (o k)) (λ k. v (o k)) out)
+    (length-stored n w v out ∙ sym (length-stored n (λ k. w (o k)) (λ k. v (o k)) out))
+    (λ x l.
     let k = lowest n (λ j. eqb (w j) x) in
     lt-cases k n
     (λ h.
@@ -91,7 +93,8 @@ stored-reordered n o w v out P one room =
     (stored-at n w v out one k h (room k h)
     ∙ sym
     (ap (λ (y : ℕ). getD (stored n (λ j. w (o j)) (λ j. v (o j)) out) (w y) 0) (sym f)
-    ∙ stored-at n (λ j. w (o j)) (λ j. v (o j)) out (λ a b ha hb z. P .apart a b ha hb (one (o a) (o b) (P .below a ha) (P .below b hb) z)) i hi (room (o i) (P .below i hi)) ∙ ap v f)))
+    ∙ stored-at n (λ j. w (o j)) (λ j. v (o j)) out
+    (λ a b ha hb z. P .apart a b ha hb (one (o a) (o b) (P .below a ha) (P .below b hb) z)) i hi (room (o i) (P .below i hi)) ∙ ap v f)))
     (λ h.
     let none : (j : ℕ) → j < n → x ≡ w j → ⊥ =
     λ j b e. eqb-false (w j) x (lowest-below n (λ j. eqb (w j) x) j (omega arith)) (sym e) in

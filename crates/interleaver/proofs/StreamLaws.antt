@@ -1,4 +1,5 @@
--- The joined stream, nibble by nibble: how many data and parity nibbles come before it, and when the next parity nibble is due. Assumes nothing.
+-- The joined stream, nibble by nibble: how many data and parity nibbles come before it, and when the next parity nibble is due.
+-- Assumes nothing.
 use mathlib.Core.Path.{_≡_, refl, ap, _∙_}
 use mathlib.Core.Bool.{true, false, cond}
 use Prim.Native.Nat.{ℕ, zero, _+_, _-_, _*_, _/_, _%_, _<_, _≤_}
@@ -26,14 +27,18 @@ module _ (L : Layout) (S : Sound L) where
   -- the next nibble, in the same group or first in the next
   next-in : (n : ℕ) → placeIn L n + 1 < L .group + 1 → (groupOf L (n + 1) ≡ groupOf L n) × (placeIn L (n + 1) ≡ placeIn L n + 1)
   next-in n h =
-      let e : n + 1 ≡ groupOf L n * (L .group + 1) + (placeIn L n + 1) = omega (arith, parts n) in
-      (ap (λ (x : ℕ). x / (L .group + 1)) e ∙ digits-div (groupOf L n) h, ap (λ (x : ℕ). x % (L .group + 1)) e ∙ digits-mod (groupOf L n) h)
+      let e : n + 1 ≡ groupOf L n * (L .group + 1) + (placeIn L n + 1) = omega (arith, parts n) in (
+        ap (λ (x : ℕ). x / (L .group + 1)) e ∙ digits-div (groupOf L n) h,
+        ap (λ (x : ℕ). x % (L .group + 1)) e ∙ digits-mod (groupOf L n) h,
+      )
 
   next-over : (n : ℕ) → placeIn L n ≡ L .group → (groupOf L (n + 1) ≡ groupOf L n + 1) × (placeIn L (n + 1) ≡ zero)
   next-over n h =
       let pos : zero < L .group + 1 = omega arith in
-      let e : n + 1 ≡ (groupOf L n + 1) * (L .group + 1) + zero = omega (arith, parts n, add-mul (groupOf L n) 1 (L .group + 1)) in
-      (ap (λ (x : ℕ). x / (L .group + 1)) e ∙ digits-div (groupOf L n + 1) pos, ap (λ (x : ℕ). x % (L .group + 1)) e ∙ digits-mod (groupOf L n + 1) pos)
+      let e : n + 1 ≡ (groupOf L n + 1) * (L .group + 1) + zero = omega (arith, parts n, add-mul (groupOf L n) 1 (L .group + 1)) in (
+        ap (λ (x : ℕ). x / (L .group + 1)) e ∙ digits-div (groupOf L n + 1) pos,
+        ap (λ (x : ℕ). x % (L .group + 1)) e ∙ digits-mod (groupOf L n + 1) pos,
+      )
 
   -- the counts by group and place, up to the parity nibble and past it
   before : (n g e : ℕ) → groupOf L n ≡ g → placeIn L n ≡ e → e ≤ L .lead → Counts L n (g * L .group + e) g (L .lead - e)
@@ -42,7 +47,8 @@ module _ (L : Layout) (S : Sound L) where
       let t : ltb (L .lead) e ≡ false = le-ltb (L .lead) e h in
       (rw (p, q, t), rw (p, q, t) (omega arith), rw (q, t))
 
-  past : (n g e : ℕ) → groupOf L n ≡ g → placeIn L n ≡ e → L .lead < e → Counts L n (g * L .group + (e - 1)) (g + 1) (L .lead + (L .group + 1) - e)
+  past : (n g e : ℕ) → groupOf L n ≡ g → placeIn L n ≡ e → L .lead < e
+      → Counts L n (g * L .group + (e - 1)) (g + 1) (L .lead + (L .group + 1) - e)
   unfolding parityPlace untilParity
   past n g e p q h =
       let t : ltb (L .lead) e ≡ true = lt-ltb (L .lead) e h in
@@ -150,7 +156,16 @@ module _ (L : Layout) (S : Sound L) where
       let e = eqb-true (placeIn L n) (L .lead) t in
       let (d′, p, u) = before n (groupOf L n) (placeIn L n) refl refl (omega arith) in
       let g : groupOf L n + 1 ≡ L .parity = lt-cases (groupOf L n + 1) (L .parity)
-      (λ l. absurd (omega (arith, S .rows-are, S .lead-le, S .group-pos, add-mul (groupOf L n) 2 (L .group), mul-le-mul-right {m = groupOf L n + 2} {n = L .parity} (L .group) (omega arith))))
+      (λ l.
+      absurd
+      (omega (
+        arith,
+        S .rows-are,
+        S .lead-le,
+        S .group-pos,
+        add-mul (groupOf L n) 2 (L .group),
+        mul-le-mul-right {m = groupOf L n + 2} {n = L .parity} (L .group) (omega arith),
+      )))
       (λ l. omega (arith, group-lt L S n h)) in (
         t,
         omega (

@@ -38,23 +38,27 @@ from-digits w x y a b c d p q r = omega arith
 module _ (a b c d : ℕ) (ha : a < 256) (hb : b < 256) (hc : c < 256) (hd : d < 256) where
   none : rotated (joined a b c d) 0 ≡ joined a b c d
   none =
-      ap₂ bitOr (let e : joined a b c d * 1 % 4294967296 ≡ joined a b c d = omega arith in e) (let e : joined a b c d / 1 ≡ joined a b c d = omega arith in e)
+      ap₂ bitOr (let e : joined a b c d * 1 % 4294967296 ≡ joined a b c d = omega arith in e)
+      (let e : joined a b c d / 1 ≡ joined a b c d = omega arith in e)
       ∙ or-self (joined a b c d)
 
   -- the low bytes moved up and the high ones down
   one : rotated (joined a b c d) 1 ≡ joined d a b c
   one =
-      ap₂ bitOr (let e : joined a b c d * 256 % 4294967296 ≡ (a + b * 256 + c * 65536) * 256 = omega arith in e) (let e : joined a b c d / 16777216 ≡ d = omega arith in e)
+      ap₂ bitOr (let e : joined a b c d * 256 % 4294967296 ≡ (a + b * 256 + c * 65536) * 256 = omega arith in e)
+      (let e : joined a b c d / 16777216 ≡ d = omega arith in e)
       ∙ or-shifted (a + b * 256 + c * 65536) 8 d hd ∙ omega arith
 
   two : rotated (joined a b c d) 2 ≡ joined c d a b
   two =
-      ap₂ bitOr (let e : joined a b c d * 65536 % 4294967296 ≡ (a + b * 256) * 65536 = omega arith in e) (let e : joined a b c d / 65536 ≡ c + d * 256 = omega arith in e)
+      ap₂ bitOr (let e : joined a b c d * 65536 % 4294967296 ≡ (a + b * 256) * 65536 = omega arith in e)
+      (let e : joined a b c d / 65536 ≡ c + d * 256 = omega arith in e)
       ∙ or-shifted (a + b * 256) 16 (c + d * 256) (omega arith) ∙ omega arith
 
   three : rotated (joined a b c d) 3 ≡ joined b c d a
   three =
-      ap₂ bitOr (let e : joined a b c d * 16777216 % 4294967296 ≡ a * 16777216 = omega arith in e) (let e : joined a b c d / 256 ≡ b + c * 256 + d * 65536 = omega arith in e)
+      ap₂ bitOr (let e : joined a b c d * 16777216 % 4294967296 ≡ a * 16777216 = omega arith in e)
+      (let e : joined a b c d / 256 ≡ b + c * 256 + d * 65536 = omega arith in e)
       ∙ or-shifted a 24 (b + c * 256 + d * 65536) (omega arith) ∙ omega arith
 
 module _ (w : ℕ) (hw : w < 4294967296) where
@@ -64,7 +68,9 @@ module _ (w : ℕ) (hw : w < 4294967296) where
 
   whole : w ≡ joined (byteOf w 0) (byteOf w 1) (byteOf w 2) (byteOf w 3)
   unfolding byteOf
-  whole = from-digits w (w / 256) (w / 65536) (w / 1 % 256) (w / 256 % 256) (w / 65536 % 256) (w / 16777216 % 256) (omega arith) (omega arith) (omega arith)
+  whole =
+      from-digits w (w / 256) (w / 65536) (w / 1 % 256) (w / 256 % 256) (w / 65536 % 256) (w / 16777216 % 256)
+      (omega arith) (omega arith) (omega arith)
 
   -- a word of these bytes has them
   bytes : (f : ℕ → ℕ) (x : ℕ) → x ≡ joined (byteOf w (f 0)) (byteOf w (f 1)) (byteOf w (f 2)) (byteOf w (f 3))

@@ -70,7 +70,7 @@ fn layout_of(kind: usize, rate: usize) -> Layout
     }
 }
 
-// A row moved up by the offset.
+// A row moved up, modulo the number of rows.
 fn moved_row(rows: usize, offset: usize, row: usize) -> usize
     requires { ⌜ (row < rows) × (offset ≤ rows) × (rows < 65536) ⌝ }
     ensures { λ r. ⌜ (r ≡ movedRow rows offset row) × (r < rows) ⌝ }
@@ -194,7 +194,8 @@ fn move_pass(l: Layout, pass: usize, start: Stand, back: bool, from: &[u8], to: 
     requires { ⌜ (Sound l) × (Small l) × (Near l) × (l .continuous ≡ true) × (Stands l start) × (pass < l .step)
         × (dataPlace l (start .nibble) ≡ length (passes (l .rows) (l .step) pass))
         × (length (now from) ≡ codedOf l) × (codedOf l ≤ length (now to)) ⌝ }
-    ensures stands { λ r. ⌜ (start .nibble ≤ r .nibble) × (Stands l r) × (dataPlace l (r .nibble) ≡ length (passes (l .rows) (l .step) (pass + 1))) ⌝ }
+    ensures stands { λ r. ⌜ (start .nibble ≤ r .nibble) × (Stands l r)
+        × (dataPlace l (r .nibble) ≡ length (passes (l .rows) (l .step) (pass + 1))) ⌝ }
     ensures moved { λ r. ⌜ now (to .exit) ≡ carried l back (now (from .entry)) (start .nibble) (r .nibble) (now (to .entry)) ⌝ }
 {
     let mut at = start;
@@ -220,7 +221,8 @@ fn move_pass(l: Layout, pass: usize, start: Stand, back: bool, from: &[u8], to: 
 
 // All nibbles of a layout whose parity rows are read on without a restart.
 fn move_groups(l: Layout, back: bool, from: &[u8], to: &mut [u8])
-    requires { ⌜ (Sound l) × (Small l) × (Near l) × (l .continuous ≡ true) × (length (now from) ≡ codedOf l) × (codedOf l ≤ length (now to)) ⌝ }
+    requires { ⌜ (Sound l) × (Small l) × (Near l) × (l .continuous ≡ true)
+        × (length (now from) ≡ codedOf l) × (codedOf l ≤ length (now to)) ⌝ }
     ensures { λ _. ⌜ now (to .exit) ≡ carried l back (now (from .entry)) 0 (l .rows + l .parity) (now (to .entry)) ⌝ }
 {
     let mut at = Stand {
@@ -266,7 +268,7 @@ fn move_run(
     Run { nibble, row, pass }
 }
 
-// All nibbles of a layout of pairs. A pass's parity rows pass the end once.
+// All nibbles of a layout of pairs. The parity rows of a pass go past the end once, and then on from the first row.
 fn move_pairs(l: Layout, back: bool, from: &[u8], to: &mut [u8])
     requires { ⌜ (Sound l) × (Small l) × (Near l) × (Paired l) × (length (now from) ≡ codedOf l) × (codedOf l ≤ length (now to)) ⌝ }
     ensures { λ _. ⌜ now (to .exit) ≡ carried l back (now (from .entry)) 0 (l .rows + l .parity) (now (to .entry)) ⌝ }
@@ -289,7 +291,7 @@ fn move_pairs(l: Layout, back: bool, from: &[u8], to: &mut [u8])
     }
 }
 
-// All bits of a block, from source bits to coded bits or back. Of the pairs each direction is a call of its own, so that no nibble tests it.
+// All bits of a block, from source bits to coded bits or back. Of pairs each direction is a call of its own, so that no nibble tests it.
 fn move_bits(kind: usize, rate: usize, back: bool, from: &[u8], to: &mut [u8])
     requires { ⌜ (Defined kind rate) × (length (now from) ≡ codedBits kind rate) × (codedBits kind rate ≤ length (now to)) ⌝ }
     ensures { λ _. ⌜ now (to .exit) ≡ stored (codedBits kind rate) (target back (source kind rate))

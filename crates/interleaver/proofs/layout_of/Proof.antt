@@ -66,7 +66,13 @@ returns c =
       continuous = eqb rate 1;
     })
     (c .block-bytes .ensures) in
-    (e, subst Sound (sym e) (sound-of kind rate (c .before .pre)), subst Small (sym e) (small-of kind rate (c .before .pre)), subst Near (sym e) (near-of kind rate (c .before .pre)), λ t. subst Paired (sym e) (paired-of kind rate (c .before .pre) t))
+    let d = c .before .pre in (
+      e,
+      subst Sound (sym e) (sound-of kind rate d),
+      subst Small (sym e) (small-of kind rate d),
+      subst Near (sym e) (near-of kind rate d),
+      λ t. subst Paired (sym e) (paired-of kind rate d t),
+    )
 
 pub layout-of-spec : {M : Type 1} → statement M
 layout-of-spec =

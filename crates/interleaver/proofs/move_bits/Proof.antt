@@ -6,7 +6,7 @@ use denote.Ref.{now}
 use lib.ListN.{length}
 use Rattle.interleaver.specs.Source.{codedOf}
 use Rattle.interleaver.proofs.LayoutLaws.{coded-is}
-use Rattle.interleaver.proofs.NibbleLaws.{carried-all}
+use Rattle.interleaver.proofs.NibbleLaws.{carried-block}
 use borrow.Author.Needs.{needs}
 use Rattle.interleaver.proofs.move_bits.Statement.{statement}
 use Rattle.interleaver.proofs.move_bits.Tie as tie
@@ -49,7 +49,7 @@ returns : tie.Need-returns
 returns c =
     let a = c .before .before .before .before .before in
     let s = entry a in
-    carried-all (s .args .kind) (s .args .rate) (s .args .back) (s .args .back) (now (s .args .from)) (now (s .args .to)) _ (a .layout-of .result)
+    carried-block (s .args .kind) (s .args .rate) (s .args .back) (s .args .back) (now (s .args .from)) (now (s .args .to)) _ (a .layout-of .result)
     (a .layout-of .ensures .0) refl (c .before .before .move-groups .ensures)
 
 same-length-2 : tie.Need-same-length-2
@@ -60,7 +60,7 @@ returns-2 c =
     let t = c .before .before .before .before in
     let a = t .before .before in
     let s = entry a in
-    carried-all (s .args .kind) (s .args .rate) (s .args .back) _ (now (s .args .from)) (now (s .args .to)) _ (a .layout-of .result)
+    carried-block (s .args .kind) (s .args .rate) (s .args .back) _ (now (s .args .from)) (now (s .args .to)) _ (a .layout-of .result)
     (a .layout-of .ensures .0) (t .if2 .taken) (c .before .before .move-pairs .ensures)
 
 same-length-3 : tie.Need-same-length-3
@@ -71,7 +71,7 @@ returns-3 c =
     let t = c .before .before .before .before in
     let a = t .before .before in
     let s = entry a in
-    carried-all (s .args .kind) (s .args .rate) (s .args .back) _ (now (s .args .from)) (now (s .args .to)) _ (a .layout-of .result)
+    carried-block (s .args .kind) (s .args .rate) (s .args .back) _ (now (s .args .from)) (now (s .args .to)) _ (a .layout-of .result)
     (a .layout-of .ensures .0) (t .if2 .left) (c .before .before .move-pairs2 .ensures)
 
 pub move-bits-spec : {M : Type 1} → statement M

@@ -43,8 +43,10 @@ next c =
     let u = untilParity l (i .nibble) in
     let below : i .row < l .rows = omega (arith, c .loop-test .taken, s .pre .3) in
     let some : 0 < u =
-    lt-cases 0 u (λ h. h) (λ h. let z : u ≡ 0 = omega arith in absurd (omega (arith, c .loop-test .taken, i .inv .3, ap (λ (x : ℕ). x * l .step) z))) in
-    let (row, place) = row-at (l .rows) (l .step) (s .pre .0 .step-pos) (dataPlace l (i .nibble)) (s .args .start .pass) (i .row) (i .inv .2) (s .pre .2) below in
+    lt-cases 0 u (λ h. h)
+    (λ h. let z : u ≡ 0 = omega arith in absurd (omega (arith, c .loop-test .taken, i .inv .3, ap (λ (x : ℕ). x * l .step) z))) in
+    let (row, place) =
+    row-at (l .rows) (l .step) (s .pre .0 .step-pos) (dataPlace l (i .nibble)) (s .args .start .pass) (i .row) (i .inv .2) (s .pre .2) below in
     (some, data-due l (s .pre .0) (i .nibble) some, row, stream-on l (s .pre .0) (i .nibble) place, below)
 
 loop-holds : tie.Need-loop-holds Inv-loop μ-loop

@@ -78,7 +78,8 @@ add-if2 : tie.Need-add-if2 Inv-loop μ-loop
 add-if2 c = omega (arith, entry (c .before .before .before) .pre .1)
 
 -- past the last pass no data nibble is left
-done : (c : tie.Else1 Inv-loop μ-loop) → dataPlace (entry (c .before .before) .args .l) (c .before .before .loop .at .nibble) ≡ entry (c .before .before) .args .l .rows
+done : (c : tie.Else1 Inv-loop μ-loop)
+    → dataPlace (entry (c .before .before) .args .l) (c .before .before .loop .at .nibble) ≡ entry (c .before .before) .args .l .rows
 done c =
     let i = c .before .before in
     let s = entry i in

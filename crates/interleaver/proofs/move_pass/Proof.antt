@@ -54,7 +54,8 @@ move-parity-requires c κs =
     let s = entry (c .before) in
     let l = s .args .l in
     let i = c .before .before .before .loop in
-    (s .pre .0, s .pre .1, s .pre .2, s .pre .3, i .inv .1, stream-on l (s .pre .0) (i .at .nibble) (row-of (c .before) .1), s .pre .7, omega (arith, s .pre .8, i .inv .3))
+    let h = stream-on l (s .pre .0) (i .at .nibble) (row-of (c .before) .1) in
+    (s .pre .0, s .pre .1, s .pre .2, s .pre .3, i .inv .1, h, s .pre .7, omega (arith, s .pre .8, i .inv .3))
 
 abbrev turn : tie.After-move-parity Inv-loop μ-loop → tie.Then1 Inv-loop μ-loop
 turn c = c .before .before
@@ -71,7 +72,8 @@ data-of c =
     (e, stream-on l (s .pre .0) (m .result .nibble) (omega (arith, e, row-of (turn c) .1)))
 
 -- how far the data nibbles reach before the next parity nibble
-reach-le : (c : tie.After-move-parity Inv-loop μ-loop) → (c .move-parity .result .left * entry (turn c) .args .l .step ≤ 65535 * 65535) × (c .move-parity .result .left ≤ 65535)
+reach-le : (c : tie.After-move-parity Inv-loop μ-loop)
+    → (c .move-parity .result .left * entry (turn c) .args .l .step ≤ 65535 * 65535) × (c .move-parity .result .left ≤ 65535)
 reach-le c =
     let s = entry (turn c) in
     let l = s .args .l in
@@ -127,7 +129,11 @@ loop-less c =
     let m = c .before .before .before .before .before .before .before .before .before .before .before in
     let t = turn m in
     let some : entry t .args .l .step ≤ m .move-parity .result .left * entry t .args .l .step =
-    omega (arith, one-mul (entry t .args .l .step), mul-le-mul-right {m = 1} {n = m .move-parity .result .left} (entry t .args .l .step) (m .move-parity .ensures .0 .2)) in
+    omega (
+      arith,
+      one-mul (entry t .args .l .step),
+      mul-le-mul-right {m = 1} {n = m .move-parity .result .left} (entry t .args .l .step) (m .move-parity .ensures .0 .2),
+    ) in
     omega (arith, x .ensures .0 .3, c .before .before .before .before .before .before .least .ensures, t .if1 .taken, entry t .pre .0 .step-pos)
 
 loop-again : tie.Need-loop-again Inv-loop μ-loop

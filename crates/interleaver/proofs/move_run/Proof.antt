@@ -113,7 +113,10 @@ loop-again c =
     let two : n + 1 + 1 ≡ n + 2 = omega arith in
     let from = now (s .args .from) in
     let (first, second, below, moved) = next t in
-    let parity = second (s .args .apart + i .row) (s .pre .5 (i .row) (i .inv .2) (t .loop-test .taken)) in (
+    let parity = second (s .args .apart + i .row) (s .pre .5 (i .row) (i .inv .2) (t .loop-test .taken)) in
+    let data-bits : (k : ℕ) → k * l .rows + i .row ≡ nibbleBit l n k = λ k. first k ∙ ap (λ (m : ℕ). nibbleBit l m k) (sym e) in
+    let parity-bits : (k : ℕ) → k * l .rows + (s .args .apart + i .row) ≡ nibbleBit l (n + 1) k =
+    λ k. parity k ∙ ap (λ (m : ℕ). nibbleBit l (m + 1) k) (sym e) in (
       record {
         place = p + 1;
         nibble-is = omega (arith, e);
@@ -125,8 +128,8 @@ loop-again c =
       y .move-nibble2 .kept .1 .1 .1 .1 .1 .0 ∙ x .move-nibble .kept .1 .1 .1 .1 .1 .0 ∙ i .inv .3,
       carried-join l (s .args .back) from (s .args .start .nibble) (n + 1) (n + 2) (now (s .args .to)) _ _ (omega (arith, i .inv .1)) (omega arith)
           (carried-join l (s .args .back) from (s .args .start .nibble) n (n + 1) (now (s .args .to)) _ _ (i .inv .1) (omega arith) (i .inv .4)
-          (carried-one l (s .args .back) from n (i .row) (l .rows) _ _ (λ k. first k ∙ ap (λ (m : ℕ). nibbleBit l m k) (sym e)) (x .move-nibble .ensures)))
-          (rw two at (carried-one l (s .args .back) from (n + 1) (s .args .apart + i .row) (l .rows) _ _ (λ k. parity k ∙ ap (λ (m : ℕ). nibbleBit l (m + 1) k) (sym e)) (y .move-nibble2 .ensures))),
+          (carried-one l (s .args .back) from n (i .row) (l .rows) _ _ data-bits (x .move-nibble .ensures)))
+          (rw two at (carried-one l (s .args .back) from (n + 1) (s .args .apart + i .row) (l .rows) _ _ parity-bits (y .move-nibble2 .ensures))),
     )
 
 same-length : tie.Need-same-length Inv-loop μ-loop
