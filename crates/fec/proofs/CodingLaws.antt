@@ -59,6 +59,14 @@ module _ (kind rate : ℕ) (D : Defined kind rate) where
     pub frame-coded : codedBits kind rate ≤ 256
     frame-coded = let bits : dataBits kind ≡ 128 = ap dataBits frame in omega (arith, coded-count, frame-kept)
 
+  -- those of the kinds up to 136 bytes
+  module _ (short : kind < 3) where
+    pub short-kept : keptCount kind rate ≤ 1088
+    short-kept = omega (arith, kept-le kind rate, under 3 545 pairCount tt kind short)
+
+    pub short-coded : codedBits kind rate ≤ 2176
+    short-coded = omega (arith, coded-count, short-kept, under 3 1089 dataBits tt kind short)
+
   -- coded bits of bits are bits
   pub coded-binary : (taps : ℕ) (d : ℕ → ℕ) → Binary (dataBits kind) d → (i : ℕ) → codedBit kind rate taps d i < 2
   unfolding codedBit

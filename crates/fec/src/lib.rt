@@ -45,14 +45,19 @@ fn encode_by(kind: usize, rate: usize, taps: u16, bytes: &[u8], source: &mut [u8
     interleaver::interleave(kind, rate, &source[..coded], out);
 }
 
-// The coded bits of a block, at the start of `out`. Of the taps the low eleven bits count. Frame control has a short array of its
-// own, since a longer one takes longer to clear.
+// The coded bits of a block, at the start of `out`. Of the taps the low eleven bits count. Short blocks have shorter arrays, since
+// a longer one takes longer to clear.
 pub fn encode(kind: usize, rate: usize, taps: u16, bytes: &[u8], out: &mut [u8])
     requires { ⌜ (Defined kind rate) × (length (now bytes) ≡ blockBytes kind) × (codedBits kind rate ≤ length (now out)) ⌝ }
     ensures { λ _. ⌜ now (out .exit) ≡ written (codedBits kind rate) (codedBit kind rate taps (bitOf (now (bytes .entry)))) (now (out .entry)) ⌝ }
 {
     if kind == 0 {
         let mut source = [0u8; 256];
+        encode_by(kind, rate, taps, bytes, &mut source, out);
+        return;
+    }
+    if kind < 3 {
+        let mut source = [0u8; 2176];
         encode_by(kind, rate, taps, bytes, &mut source, out);
         return;
     }
@@ -125,6 +130,10 @@ fn parity_errors(kind: usize, rate: usize, taps: u16, bytes: &[u8], parity: &[u8
         let mut again = [0u8; 128];
         return count_errors(kind, rate, taps, bytes, parity, &mut again);
     }
+    if kind < 3 {
+        let mut again = [0u8; 1088];
+        return count_errors(kind, rate, taps, bytes, parity, &mut again);
+    }
     let mut again = [0u8; 4160];
     count_errors(kind, rate, taps, bytes, parity, &mut again)
 }
@@ -174,6 +183,10 @@ pub fn recover(kind: usize, rate: usize, taps: u16, decided: &[u8], out: &mut [u
     }
     if kind == 0 {
         let mut source = [0u8; 256];
+        return recover_by(kind, rate, taps, decided, &mut source, out);
+    }
+    if kind < 3 {
+        let mut source = [0u8; 2176];
         return recover_by(kind, rate, taps, decided, &mut source, out);
     }
     let mut source = [0u8; 8320];

@@ -1,4 +1,4 @@
--- `fec::recover` meets its contract: an undecided bit refuses, and either array has room for the source bits. Assumes nothing.
+-- `fec::recover` meets its contract: an undecided bit refuses, and each array has room for the source bits. Assumes nothing.
 use mathlib.Core.Path.{_≡_, sym, ap, _∙_}
 use mathlib.Core.List.{List}
 use Prim.Native.Nat.{ℕ, _≤_}
@@ -9,7 +9,7 @@ use Rattle.refusal.specs.Report.{refused}
 use Rattle.refusal.specs.Outcome.{Outcome}
 use Rattle.interleaver.proofs.InterleaverLaws.{coded-le}
 use Rattle.fec.specs.Recovery.{firstUndecided}
-use Rattle.fec.proofs.CodingLaws.{frame-coded}
+use Rattle.fec.proofs.CodingLaws.{frame-coded, short-coded}
 use Rattle.fec.proofs.RecoveryLaws.{refused-majority}
 use Rattle.fec.proofs.BufferLaws.{decidedAt, first-is}
 use borrow.Author.Needs.{needs}
@@ -55,15 +55,30 @@ slice-aggregate-recover-by-2 c = search needs
 
 recover-by-requires-2 : tie.Need-recover-by-requires-2
 recover-by-requires-2 c κs =
-    let o = c .before .before .before in
+    let o = c .before .before .before .before in
     let z = entry o in
-    ((z .pre .0, z .pre .1, all-decided o), (coded-le (z .args .kind) (z .args .rate) (z .pre .0), z .pre .2))
+    ((z .pre .0, z .pre .1, all-decided o), (short-coded (z .args .kind) (z .args .rate) (z .pre .0) (omega arith), z .pre .2))
 
 same-length-2 : tie.Need-same-length-2
 same-length-2 c = search needs
 
 returns-3 : tie.Need-returns-3
 returns-3 c = search needs
+
+slice-aggregate-recover-by-3 : tie.Need-slice-aggregate-recover-by-3
+slice-aggregate-recover-by-3 c = search needs
+
+recover-by-requires-3 : tie.Need-recover-by-requires-3
+recover-by-requires-3 c κs =
+    let o = c .before .before .before .before in
+    let z = entry o in
+    ((z .pre .0, z .pre .1, all-decided o), (coded-le (z .args .kind) (z .args .rate) (z .pre .0), z .pre .2))
+
+same-length-3 : tie.Need-same-length-3
+same-length-3 c = search needs
+
+returns-4 : tie.Need-returns-4
+returns-4 c = search needs
 
 pub recover-spec : {M : Type 1} → statement M
 recover-spec =
@@ -78,4 +93,8 @@ recover-spec =
     slice-aggregate-recover-by-2
     recover-by-requires-2
     same-length-2
-    returns-3)
+    returns-3
+    slice-aggregate-recover-by-3
+    recover-by-requires-3
+    same-length-3
+    returns-4)
