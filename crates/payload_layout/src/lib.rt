@@ -63,7 +63,7 @@ pub fn fill_pad(l: Layout, out: &mut [u8])
 
 // ---- decisions
 
-// 1 where the two are equal, else 0.
+// The vote of an item for v: 1 where it holds v, else 0.
 fn same(item: u8, v: u8) -> u8
     ensures { λ r. ⌜ r ≡ vote item v ⌝ }
 {
@@ -77,7 +77,7 @@ fn of_one(item: u8) -> u8
     if item < 2 { item } else { 2 }
 }
 
-// What a bit's two copies decide. Without branches, so that the loop below runs in vectors.
+// What a bit's two copies decide. By sums and not by cases, so that the loop below runs in vectors.
 fn of_two(a: u8, b: u8) -> u8
     ensures { λ r. ⌜ r ≡ ofTwo a b ⌝ }
 {
@@ -105,7 +105,7 @@ fn decide_ones(items: &[u8], out: &mut [u8])
     }
 }
 
-// The same for the bits that have a second copy in the pad.
+// What items and their second copies in the pad decide, at the start of `out`.
 fn decide_twos(items: &[u8], pad: &[u8], out: &mut [u8])
     requires { ⌜ (length (now pad) ≤ length (now items)) × (length (now pad) ≤ length (now out)) ⌝ }
     ensures { λ _. ⌜ now (out .exit) ≡ written (length (now (pad .entry)))
