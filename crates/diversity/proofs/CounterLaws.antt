@@ -1,18 +1,17 @@
--- Laws of the counters: one item more, a symbol more, and the majority that a counter tells. Assumes nothing.
+-- Laws of the counters: one item more, a run of items more, and the majority that a counter tells. Assumes nothing.
 use mathlib.Core.Path.{_≡_, refl, sym, ap, ap₂, _∙_}
 use mathlib.Core.Bool.{Bool, true, false, cond, _&&_}
 use mathlib.Core.List.{List}
 use Prim.Native.Nat.{ℕ, _+_, _-_, _≤_, _<_}
 use native.Mathlib.Omega.{arith}
 use lib.Dec.{eqb, ltb}
-use lib.ListN.{getD, length, set, take, drop, replicate, length-replicate, getD-replicate}
+use lib.ListN.{getD, length, drop}
 use borrow.Author.Tests.{ltb-true, ltb-false, lt-ltb, le-ltb}
-use Rattle.bits.proofs.ListLaws.{length-tabulate, getD-tabulate, tabulate-of, tabulate-ext, tabulate-set}
+use Rattle.bits.proofs.ListLaws.{getD-tabulate, tabulate-of, tabulate-ext}
 use Rattle.bits.specs.Sums.{count}
 use Rattle.bits.proofs.SumLaws.{count-next, count-le, count-ext}
-use Rattle.diversity.specs.Votes.{votes, majority, decided}
-use Rattle.diversity.specs.Counters.{counted, Room}
-use borrow.Rule.Slice.PartAt.{part-to-end}
+use Rattle.diversity.specs.Votes.{votes, majority}
+use Rattle.diversity.specs.Counters.{counted}
 use Rattle.diversity.proofs.VoteLaws.{votes-append}
 
 votes-le : (N : ℕ) (on : ℕ → ℕ → Bool) (items : List ℕ) (b v : ℕ) → votes N on items b v ≤ N
@@ -49,17 +48,6 @@ module _ (B n : ℕ) (on : ℕ → ℕ → Bool) (items counters now : List ℕ)
   unfolding counted
   counter-at b l = rw h (getD-tabulate B _ b 0 l)
 
-  -- there is room left
-  pub room-after : (m : ℕ) → Room B (n + m) counters → Room B m now
-  unfolding counted
-  room-after m room =
-      record {
-        long = ap length h ∙ length-tabulate B _;
-        each = λ b l.
-            let r = room .each b l in
-            (omega (arith, counter-at b l, votes-le n on items b 0), omega (arith, counter-at b l, votes-le n on items b 1));
-      }
-
   -- m items more, which are counted by themselves
   pub counted-more : (m : ℕ) (part : ℕ → ℕ → Bool) (next later : List ℕ) → ((j : ℕ) → j < m → (b : ℕ) → part j b ≡ on (n + j) b)
       → ((j : ℕ) → j < m → getD next j 0 ≡ getD (drop n items) j 0)
@@ -81,13 +69,6 @@ module _ (B n : ℕ) (on : ℕ → ℕ → Bool) (items counters now : List ℕ)
             few b l,
           )
 
-  -- the same for a part that is taken to the end
-  pub counted-append : (m : ℕ) (part : ℕ → ℕ → Bool) (later : List ℕ) → ((j : ℕ) → j < m → (b : ℕ) → part j b ≡ on (n + j) b) → Room B (n + m) counters
-      → later ≡ counted B m part (take (length items - n) (drop n items)) now → later ≡ counted B (n + m) on items counters
-  counted-append m part later same room e =
-      counted-more m part _ later same (λ j l. ap (λ (xs : List ℕ). getD xs j 0) (part-to-end items n))
-      (λ b l. let r = room .each b l in omega (arith, votes-le (n + m) on items b 0)) e
-
 -- before any item
 pub counted-start : (B : ℕ) (on : ℕ → ℕ → Bool) (items counters : List ℕ) → length counters ≡ B
     → counters ≡ counted B 0 on items counters
@@ -95,51 +76,9 @@ unfolding counted
 counted-start B on items counters long =
     tabulate-of B _ 0 counters long (λ b l. omega (arith, votes-none on items b 0, votes-none on items b 1))
 
-pub counted-none : (B m : ℕ) (on : ℕ → ℕ → Bool) (items counters : List ℕ) → Room B m counters → counters ≡ counted B 0 on items counters
-counted-none B m on items counters room = counted-start B on items counters (room .long)
-
 pub counted-all : (B n m : ℕ) (on : ℕ → ℕ → Bool) (items counters now : List ℕ)
     → now ≡ counted B n on items counters → n ≡ m → now ≡ counted B m on items counters
 counted-all B n m on items counters now h e = rw (← e) h
-
-pub room-less : (B m k : ℕ) (counters : List ℕ) → m ≤ k → Room B k counters → Room B m counters
-room-less B m k counters h room =
-    record {
-      long = room .long;
-      each = λ b l. let r = room .each b l in (omega arith, omega arith);
-    }
-
--- after n items of m there is room for one more
-pub room-next : (B n m : ℕ) (on : ℕ → ℕ → Bool) (items counters now : List ℕ) (b : ℕ)
-    → now ≡ counted B n on items counters → n < m → Room B m counters → b < B
-    → (0 < getD now b 0) × (getD now b 0 < 65535)
-room-next B n m on items counters now b h k room l =
-    let r = room-after B n on items counters now h 1 (room-less B (n + 1) m counters (omega arith) room) .each b l in
-    (omega arith, omega arith)
-
--- an item's turn: the counter of the one bit that it carries goes up for a one and down for a zero
-pub counted-next : (B n : ℕ) (on : ℕ → ℕ → Bool) (items counters now : List ℕ) (b x : ℕ)
-    → now ≡ counted B n on items counters → b < B → on n b ≡ true → ((k : ℕ) → (k ≡ b → ⊥) → on n k ≡ false) → Room B (n + 1) counters
-    → x ≡ getD now b 0 + cond (eqb (getD items n 0) 1) 1 0 - cond (eqb (getD items n 0) 0) 1 0
-    → set now b x ≡ counted B (n + 1) on items counters
-unfolding counted
-counted-next B n on items counters now b x h l e other room g =
-    rw h (tabulate-set B b x _ _ l here (λ k d. ap₂ (λ (o z : ℕ). getD counters k 0 + o - z) (there k 1 d) (there k 0 d)))
-  where
-    there : (k v : ℕ) → (k ≡ b → ⊥) → votes (n + 1) on items k v ≡ votes n on items k v
-    there k v d = votes-there on items n k v (other k d)
-
-    here : getD counters b 0 + votes (n + 1) on items b 1 - votes (n + 1) on items b 0 ≡ x
-    here =
-        let r = room .each b l in
-        omega (
-          arith,
-          g,
-          counter-at B n on items counters now h b l,
-          votes-here on items n b 0 e,
-          votes-here on items n b 1 e,
-          votes-le (n + 1) on items b 0,
-        )
 
 -- two tests of the same outcome
 same-test : (a b c d : ℕ) → (a < b → c < d) → (b ≤ a → d ≤ c) → ltb a b ≡ ltb c d
@@ -155,22 +94,3 @@ unfolding majority
 majority-from m zeros ones x e =
     ap₂ (λ (t u : Bool). cond t 0 (cond u 1 2))
     (same-test x m ones zeros (λ l. omega arith) (λ l. omega arith)) (same-test m x zeros ones (λ l. omega arith) (λ l. omega arith))
-
-pub counter-decides : (B N m : ℕ) (on : ℕ → ℕ → Bool) (items now : List ℕ) (b : ℕ)
-    → now ≡ counted B N on items (replicate B m) → N ≤ m → b < B
-    → majority m (getD now b 0) ≡ decided N on items b
-unfolding decided
-counter-decides B N m on items now b h k l =
-    majority-from m (votes N on items b 0) (votes N on items b 1) (getD now b 0)
-    (omega (arith, votes-le N on items b 0, counter-at B N on items (replicate B m) now h b l, getD-replicate B b m 0 l))
-
--- ---- counters that start at m
-
-pub room-even : (B n m : ℕ) (counters : List ℕ) → counters ≡ replicate B m → n ≤ m → m + n < 65536 → Room B n counters
-room-even B n m counters e h k =
-    record {
-      long = rw e (length-replicate B m);
-      each = λ b l.
-          let start : getD counters b 0 ≡ m = rw e (getD-replicate B b m 0 l) in
-          (omega arith, omega arith);
-    }

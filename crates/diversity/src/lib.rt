@@ -230,29 +230,12 @@ pub fn copy_items(band: usize, coded: &[u8], out: &mut [u8])
 
 // ---- votes
 
-// Where a counter starts: half of what 16 bits hold.
-pub const MIDDLE: u16 = 32768;
-
 // Where a counter of the ring starts. A symbol has one vote at most for it, so it has room for 15 symbols up and down, and six of
 // them together stay below 256.
 const LEVEL: u8 = 16;
 
 // What the six counters of a bit start at together.
 const SIX_LEVELS: u16 = 96;
-
-// A counter after one item: up for a one, down for a zero.
-pub fn moved(counter: u16, item: u8) -> u16
-    requires { ⌜ (0 < counter) × (counter < 65535) ⌝ }
-    ensures { λ r. ⌜ r ≡ counter + cond (eqb item 1) 1 0 - cond (eqb item 0) 1 0 ⌝ }
-{
-    if item == 1 {
-        return counter + 1;
-    }
-    if item == 0 {
-        return counter - 1;
-    }
-    counter
-}
 
 // 1 where two bytes are equal, else 0.
 fn same(a: u8, b: u8) -> u8
@@ -265,7 +248,7 @@ fn same(a: u8, b: u8) -> u8
     0
 }
 
-// A counter of the ring after one item.
+// A counter of the ring after one item: up for a one, down for a zero.
 fn voted(counter: u8, item: u8) -> u8
     requires { ⌜ (0 < counter) × (counter < 255) ⌝ }
     ensures { λ r. ⌜ r ≡ afterItem counter item ⌝ }
@@ -311,7 +294,7 @@ fn count_symbols(carriers: usize, offsets: &[u8], items: &[u8], counters: &mut [
 }
 
 // The strict majority of two counts: 0, 1, or 2 where there is none.
-pub fn majority(zeros: u16, ones: u16) -> u8
+fn majority(zeros: u16, ones: u16) -> u8
     ensures { λ r. ⌜ r ≡ majorityOf zeros ones ⌝ }
 {
     if ones < zeros {
