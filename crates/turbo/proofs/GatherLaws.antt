@@ -10,7 +10,7 @@ use lib.Seq.{getD-drop, getD-take}
 use borrow.Author.Tests.{eq-eqb, ne-eqb}
 use Rattle.bits.specs.Bits.{bitOf}
 use Rattle.bits.specs.Lists.{tabulate, written}
-use Rattle.bits.proofs.ListLaws.{length-tabulate, getD-tabulate, length-written, getD-written, getD-kept, written-of, written-two, written-part, written-all, written-ext, take-written}
+use Rattle.bits.proofs.ListLaws.{length-tabulate, getD-tabulate, length-written, getD-written, getD-kept, written-of, written-over, written-two, written-all, written-ext, take-written}
 use Rattle.bits.proofs.NumberLaws.{lt-cases, row-within}
 use Rattle.turbo.specs.Pairs.{pairAt}
 use Rattle.card.specs.Modes.{blockBytes}
@@ -31,14 +31,6 @@ written-four n v w x y f out now e h a b c d =
     ∙ written-two (n + 2) x y f out (set (set now n v) (n + 1) w) (written-two n v w f out now e (omega arith) a b) (omega arith) c (d ∙ ap f z))
     (omega arith)
 
--- over what was written more is written
-pub written-over : (n m : ℕ) (f g : ℕ → ℕ) (out : List ℕ) → n ≤ m → m ≤ length out → written m g (written n f out) ≡ written m g out
-written-over n m f g out h l =
-    let a : length (written n f out) ≡ length out = length-written n f out (omega arith) in
-    written-of m g 0 out (written m g (written n f out)) l (length-written m g (written n f out) (omega arith) ∙ a)
-    (λ k b. getD-written m g (written n f out) k 0 b)
-    (λ k b. getD-kept m g (written n f out) k 0 b ∙ getD-kept n f out k 0 (omega arith))
-
 -- pair j of byte i
 pub pair-in-byte : (bytes : List ℕ) (i j : ℕ) → j < 4 → pairIn (getD bytes i 0) j ≡ pairAt (bitOf bytes) (4 * i + j)
 pair-in-byte bytes i j h =
@@ -48,15 +40,31 @@ pair-in-byte bytes i j h =
 
 -- ---- the list
 
-pub listed-twice : (l m : ℕ) (p : ℕ → ℕ) (out now part : List ℕ) → m ≡ l + l → now ≡ written l p out → part ≡ written l p (take (length now - l) (drop l now))
-    → take l now ++ (part ++ drop (length now - l) (drop l now)) ≡ written m (twice l p) out
+wrapped-once : (l j : ℕ) → j < l → (l + j) % l ≡ j
+wrapped-once l j h = ap (λ (k : ℕ). (k + j) % l) (sym (one-mul l)) ∙ digits-mod 1 h
+
+-- before the first element is repeated, and each one's turn
+pub repeat-none : (l : ℕ) (out : List ℕ) → l ≤ length out → out ≡ written (l + 0) (twice l (λ k. getD out k 0)) out
 unfolding twice
-listed-twice l m p out now part q e f =
-    written-all _ _ _ _ _
-    (written-part l l (λ t. p (t % l)) p out now part (e ∙ written-ext l p (λ t. p (t % l)) out (λ t h. ap p (sym (mod-eq-of-lt h)))) (λ j h. ap p (sym (again j h))) f) (sym q)
-  where
-    again : (j : ℕ) → j < l → (l + j) % l ≡ j
-    again j h = ap (λ (k : ℕ). (k + j) % l) (sym (one-mul l)) ∙ digits-mod 1 h
+repeat-none l out h =
+    written-of (l + 0) _ 0 out out (omega arith) refl
+    (λ i b. let c : i < l = omega arith in ap (λ (k : ℕ). getD out k 0) (sym (mod-eq-of-lt c))) (λ i b. refl)
+
+pub repeat-next : (l i : ℕ) (out now : List ℕ) → i < l → now ≡ written (l + i) (twice l (λ k. getD out k 0)) out
+    → getD now i 0 ≡ twice l (λ k. getD out k 0) (l + i)
+unfolding twice
+repeat-next l i out now h e =
+    rw e
+    (getD-written (l + i) _ out i 0 (omega arith) ∙ ap (λ (k : ℕ). getD out k 0) (mod-eq-of-lt h ∙ sym (wrapped-once l i h)))
+
+-- a list that was written and then repeated
+pub listed-twice : (l m : ℕ) (p : ℕ → ℕ) (out now later : List ℕ) → m ≡ l + l → now ≡ written l p out
+    → later ≡ written (l + l) (twice l (λ k. getD now k 0)) now → later ≡ written m (twice l p) out
+unfolding twice
+listed-twice l m p out now later q e f =
+    f ∙ ap (λ (n : List ℕ). written (l + l) (λ t. getD n (t % l) 0) n) e ∙ written-over l (l + l) _ p out (omega arith)
+    ∙ written-ext (l + l) _ (λ t. p (t % l)) out (λ t h. getD-written l p out (t % l) 0 (mod-lt t (omega arith)))
+    ∙ ap (λ (k : ℕ). written k (λ t. p (t % l)) out) (sym q)
 
 -- ---- the places of four rows
 
@@ -226,7 +234,7 @@ module _ (l n : ℕ) (s : List ℕ) (I : Interleaver l s) (q : l ≡ 4 * n) (row
     second-four hp out mid last h em e =
         e
         ∙ ap (written n (λ i. exchangedByte (getD mid i 0))) em
-        ∙ written-over n n (fourFrom (byRows places list n)) (λ i. exchangedByte (getD mid i 0)) out (omega arith) h
+        ∙ written-over n n (λ i. exchangedByte (getD mid i 0)) (fourFrom (byRows places list n)) out (omega arith)
         ∙ written-ext n (λ i. exchangedByte (getD mid i 0)) (fourFrom (interleavedBy l s p)) out (λ i b. ap exchangedByte (byte i b) ∙ exchanged-four (λ x. p (placeBy l s x)) (λ t. hp (placeBy l s t)) i)
       where
         byte : (i : ℕ) → i < n → getD mid i 0 ≡ fourFrom (λ x. p (placeBy l s x)) i

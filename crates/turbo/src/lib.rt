@@ -358,14 +358,25 @@ fn unpack_pairs(bytes: &[u8], out: &mut [u8])
     }
 }
 
+// The first l elements again, behind themselves.
+fn repeat(l: usize, out: &mut [u8])
+    requires { ⌜ (l ≤ 2080) × (l + l ≤ length (now out)) ⌝ }
+    ensures { λ _. ⌜ now (out .exit) ≡ written (l + l) (twice l (λ k. getD (now (out .entry)) k 0)) (now (out .entry)) ⌝ }
+{
+    let mut i: usize = 0;
+    while i < l {
+        out[l + i] = out[i];
+        i += 1;
+    }
+}
+
 // The pairs of some bytes, twice, so that a place that runs past the last pair needs no test.
 fn list_twice(bytes: &[u8], out: &mut [u8])
     requires { ⌜ (length (now bytes) ≤ 520) × (8 * length (now bytes) ≤ length (now out)) ⌝ }
     ensures { λ _. ⌜ now (out .exit) ≡ written (8 * length (now (bytes .entry))) (twice (4 * length (now (bytes .entry))) (pairAt (bitOf (now (bytes .entry))))) (now (out .entry)) ⌝ }
 {
-    let l = 4 * bytes.len();
     unpack_pairs(bytes, out);
-    unpack_pairs(bytes, &mut out[l..]);
+    repeat(4 * bytes.len(), out);
 }
 
 // The table's entries, each moved up.

@@ -10,10 +10,9 @@ use lib.Pow.{pow-pos, pow-mono}
 use lib.Seq.{getD-set-same}
 use borrow.Author.Needs.{needs}
 use Rattle.bits.specs.Lists.{written}
-use Rattle.bits.proofs.ListLaws.{length-written, getD-written, written-whole}
+use Rattle.bits.proofs.ListLaws.{length-written, getD-written, written-whole, written-over}
 use Rattle.bits.proofs.NumberLaws.{lt-cases}
 use Rattle.turbo.specs.Bytes.{byteWord}
-use Rattle.turbo.proofs.GatherLaws.{written-over}
 use Rattle.turbo.proofs.ByteLaws.{written-same, word-zero}
 use Rattle.turbo.proofs.by_bytes.Statement.{statement}
 use Rattle.turbo.proofs.by_bytes.Tie as tie
@@ -72,7 +71,7 @@ loop-again c =
     let (j, h, e, w, n, m) = l .inv in
     let b : j < 8 = bit-lt j (l .half) h e (i .loop-test .taken) in
     let d : 2 * l .half ≤ 256 = omega (arith, e, pow-mono {i = j} {j = 7} (omega arith)) in
-    let q = c .before .before .double .ensures ∙ ap (written (2 * l .half) f) w ∙ written-over (l .half) (2 * l .half) f f _ (omega arith) (omega arith) in (
+    let q = c .before .before .double .ensures ∙ ap (written (2 * l .half) f) w ∙ written-over (l .half) (2 * l .half) f f _ (omega arith) in (
       j + 1,
       omega arith,
       rw (add-one, pow-suc 2 j) (omega arith),
