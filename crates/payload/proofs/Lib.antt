@@ -1,3 +1,4 @@
+-- The laws of what `payload` defines. Assumes nothing.
 pub mod ModeLaws
 pub mod EntryLaws
 pub mod BufferLaws

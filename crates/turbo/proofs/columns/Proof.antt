@@ -1,4 +1,3 @@
-use borrow.Author.Needs.{needs}
 -- `turbo::columns` meets its contract. Assumes nothing.
 use Prim.Native.Nat.{_+_, _-_}
 use lib.ListN.{length}

@@ -1,4 +1,3 @@
-use borrow.Author.Needs.{needs}
 -- `turbo::encode_in` meets its contract. Assumes nothing.
 use mathlib.Core.Path.{_∙_}
 use borrow.Author.Needs.{needs}

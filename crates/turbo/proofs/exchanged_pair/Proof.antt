@@ -1,7 +1,6 @@
+-- `turbo::exchanged_pair` meets its contract. Assumes nothing.
 use Rattle.bits.proofs.RangeLaws.{agree}
 use Rattle.turbo.specs.Interleave.{exchanged}
-use borrow.Author.Needs.{needs}
--- `turbo::exchanged_pair` meets its contract. Assumes nothing.
 use Prim.Native.Nat.{_+_, _*_, _/_, _%_}
 use borrow.Author.Needs.{needs}
 use Rattle.turbo.proofs.exchanged_pair.Statement.{statement}

@@ -1,4 +1,3 @@
-use borrow.Author.Needs.{needs}
 -- `turbo::parity_bytes` meets its contract. Assumes nothing.
 use mathlib.Core.Path.{ap, _∙_}
 use Prim.Native.Nat.{ℕ}

@@ -1,4 +1,3 @@
-use borrow.Author.Needs.{needs}
 -- `turbo::pick` meets its contract. Assumes nothing.
 use mathlib.Core.Path.{refl}
 use borrow.Author.Needs.{needs}

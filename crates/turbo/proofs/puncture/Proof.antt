@@ -1,5 +1,3 @@
-use borrow.Author.Tests.{eqb-true}
-use borrow.Author.Needs.{needs}
 -- `turbo::puncture` meets its contract. Assumes nothing.
 use mathlib.Core.Path.{_≡_, sym, _∙_}
 use native.Mathlib.Omega.{arith}

@@ -1,4 +1,3 @@
-use borrow.Author.Needs.{needs}
 -- `turbo::row_places` meets its contract. Assumes nothing.
 use mathlib.Core.Path.{ap, _∙_}
 use mathlib.Core.List.{List}

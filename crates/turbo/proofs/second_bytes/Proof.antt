@@ -1,4 +1,3 @@
-use borrow.Author.Needs.{needs}
 -- `turbo::second_bytes` meets its contract. Assumes nothing.
 use mathlib.Core.Path.{_≡_, ap}
 use Prim.Native.Nat.{_*_}

@@ -1,4 +1,3 @@
-use borrow.Author.Needs.{needs}
 -- `turbo::stride` meets its contract. Assumes nothing.
 use native.Mathlib.Omega.{arith}
 use borrow.Author.Needs.{needs}
