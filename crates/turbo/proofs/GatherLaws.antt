@@ -1,35 +1,25 @@
 -- The pair interleaver, read off a list that has the block's pairs twice. Assumes nothing.
 use mathlib.Core.Path.{_≡_, refl, sym, ap, ap₂, _∙_}
 use mathlib.Core.List.{List, _++_}
-use Prim.Native.Nat.{ℕ, _+_, _-_, _*_, _/_, _%_, _≤_, _<_}
+use Prim.Native.Nat.{ℕ, zero, suc, _+_, _-_, _*_, _/_, _%_, _≤_, _<_}
 use native.Mathlib.Nat.{one-mul, add-mul, mul-assoc, mul-left-comm, mul-le-mul-right, mod-lt, mod-eq-of-lt, div-add-mod'}
 use native.Mathlib.Omega.{arith}
 use lib.Arith.{digits-div, digits-mod}
-use lib.ListN.{length, getD, set, take, drop, length-take, length-drop}
+use lib.ListN.{length, getD, take, drop, length-take, length-drop}
 use lib.Seq.{getD-drop, getD-take}
 use borrow.Author.Tests.{eq-eqb, ne-eqb}
 use Rattle.bits.specs.Bits.{bitOf}
 use Rattle.bits.specs.Lists.{tabulate, written}
-use Rattle.bits.proofs.ListLaws.{length-tabulate, getD-tabulate, length-written, getD-written, getD-kept, written-of, written-over, written-two, written-all, written-ext, take-written}
+use Rattle.bits.proofs.ListLaws.{length-tabulate, getD-tabulate, length-written, getD-written, getD-kept, written-of, written-part, written-all, written-ext, take-written, written-over}
 use Rattle.bits.proofs.NumberLaws.{lt-cases, row-within}
 use Rattle.turbo.specs.Pairs.{pairAt}
 use Rattle.card.specs.Modes.{blockBytes}
 use Rattle.turbo.specs.Parity.{inputOf}
 use Rattle.turbo.specs.Interleave.{starts, interleaved, placeBy, Interleaver, exchanged, exchangedAt, interleavedBy}
 use Rattle.turbo.specs.Bytes.{pairIn, fourFrom}
-use Rattle.turbo.specs.Gather.{twice, placeIn, picked, byRows, exchangedByte, Gathering, Interleaving}
+use Rattle.turbo.specs.Gather.{digitOf, twice, placeIn, picked, byRows, exchangedByte, Gathering, Interleaving}
 use Rattle.turbo.proofs.StepLaws.{few-pairs, pair-lt, pair-read}
 use Rattle.turbo.proofs.InterleaveLaws.{table, whole-rows}
-
--- four elements more
-pub written-four : (n v w x y : ℕ) (f : ℕ → ℕ) (out now : List ℕ) → now ≡ written n f out → n + 3 < length out
-    → v ≡ f n → w ≡ f (n + 1) → x ≡ f (n + 2) → y ≡ f (n + 3) → set (set (set (set now n v) (n + 1) w) (n + 2) x) (n + 3) y ≡ written (n + 4) f out
-written-four n v w x y f out now e h a b c d =
-    let z : n + 3 ≡ n + 2 + 1 = omega arith in
-    written-all _ _ f out _
-    (ap (λ (k : ℕ). set (set (set (set now n v) (n + 1) w) (n + 2) x) k y) z
-    ∙ written-two (n + 2) x y f out (set (set now n v) (n + 1) w) (written-two n v w f out now e (omega arith) a b) (omega arith) c (d ∙ ap f z))
-    (omega arith)
 
 -- pair j of byte i
 pub pair-in-byte : (bytes : List ℕ) (i j : ℕ) → j < 4 → pairIn (getD bytes i 0) j ≡ pairAt (bitOf bytes) (4 * i + j)
@@ -40,31 +30,65 @@ pair-in-byte bytes i j h =
 
 -- ---- the list
 
-wrapped-once : (l j : ℕ) → j < l → (l + j) % l ≡ j
-wrapped-once l j h = ap (λ (k : ℕ). (k + j) % l) (sym (one-mul l)) ∙ digits-mod 1 h
+-- the digits of element i
+pub digit-even : (base : ℕ) (src : List ℕ) (i : ℕ) → getD src i 0 / base % base ≡ digitOf base src (2 * i)
+unfolding digitOf
+digit-even base src i = let a : 2 * i / 2 ≡ i = omega arith in rw (a, eq-eqb (2 * i % 2) 0 (omega arith))
 
--- before the first element is repeated, and each one's turn
-pub repeat-none : (l : ℕ) (out : List ℕ) → l ≤ length out → out ≡ written (l + 0) (twice l (λ k. getD out k 0)) out
-unfolding twice
-repeat-none l out h =
-    written-of (l + 0) _ 0 out out (omega arith) refl
-    (λ i b. let c : i < l = omega arith in ap (λ (k : ℕ). getD out k 0) (sym (mod-eq-of-lt c))) (λ i b. refl)
+pub digit-odd : (base : ℕ) (src : List ℕ) (i : ℕ) → getD src i 0 % base ≡ digitOf base src (2 * i + 1)
+unfolding digitOf
+digit-odd base src i = let a : (2 * i + 1) / 2 ≡ i = omega arith in rw (a, ne-eqb ((2 * i + 1) % 2) 0 (λ e. omega arith))
 
-pub repeat-next : (l i : ℕ) (out now : List ℕ) → i < l → now ≡ written (l + i) (twice l (λ k. getD out k 0)) out
-    → getD now i 0 ≡ twice l (λ k. getD out k 0) (l + i)
-unfolding twice
-repeat-next l i out now h e =
-    rw e
-    (getD-written (l + i) _ out i 0 (omega arith) ∙ ap (λ (k : ℕ). getD out k 0) (mod-eq-of-lt h ∙ sym (wrapped-once l i h)))
+-- the digits to the base four of the digits to the base sixteen are the pairs
+digits-pairs : (bytes halves : List ℕ) → halves ≡ tabulate (2 * length bytes) (digitOf 16 bytes) → (t : ℕ) → t < 4 * length bytes
+    → digitOf 4 halves t ≡ pairAt (bitOf bytes) t
+digits-pairs bytes halves e t h =
+    ap (digitOf 4 halves) q ∙ go (t / 4) (t % 4) (omega arith) (omega arith) ∙ pair-in-byte bytes (t / 4) (t % 4) (omega arith) ∙ ap (pairAt (bitOf bytes)) (sym q)
+  where
+    q : t ≡ 4 * (t / 4) + t % 4
+    q = omega arith
 
--- a list that was written and then repeated
-pub listed-twice : (l m : ℕ) (p : ℕ → ℕ) (out now later : List ℕ) → m ≡ l + l → now ≡ written l p out
-    → later ≡ written (l + l) (twice l (λ k. getD now k 0)) now → later ≡ written m (twice l p) out
+    at : (k : ℕ) → k < 2 * length bytes → getD halves k 0 ≡ digitOf 16 bytes k
+    at k l = ap (λ (m : List ℕ). getD m k 0) e ∙ getD-tabulate (2 * length bytes) (digitOf 16 bytes) k 0 l
+
+    high : (i : ℕ) → i < length bytes → getD halves (2 * i) 0 ≡ getD bytes i 0 / 16 % 16
+    high i l = at (2 * i) (omega arith) ∙ sym (digit-even 16 bytes i)
+
+    low : (i : ℕ) → i < length bytes → getD halves (2 * i + 1) 0 ≡ getD bytes i 0 % 16
+    low i l = at (2 * i + 1) (omega arith) ∙ sym (digit-odd 16 bytes i)
+
+    go : (i j : ℕ) → i < length bytes → j < 4 → digitOf 4 halves (4 * i + j) ≡ pairIn (getD bytes i 0) j
+    go i zero l b = ap (digitOf 4 halves) (omega arith) ∙ sym (digit-even 4 halves (2 * i)) ∙ omega (arith, high i l)
+    go i (suc zero) l b = ap (digitOf 4 halves) (omega arith) ∙ sym (digit-odd 4 halves (2 * i)) ∙ omega (arith, high i l)
+    go i (suc (suc zero)) l b = ap (digitOf 4 halves) (omega arith) ∙ sym (digit-even 4 halves (2 * i + 1)) ∙ omega (arith, low i l)
+    go i (suc (suc (suc zero))) l b = ap (digitOf 4 halves) (omega arith) ∙ sym (digit-odd 4 halves (2 * i + 1)) ∙ omega (arith, low i l)
+    go i (suc (suc (suc (suc j)))) l b = absurd (omega arith)
+
+-- the same of the digits as they were written before what was there
+module _ (bytes was halves : List ℕ) (e : halves ≡ written (2 * length bytes) (digitOf 16 bytes) was) where
+  its-halves : take (2 * length bytes) halves ≡ tabulate (2 * length bytes) (digitOf 16 bytes)
+  its-halves = ap (take (2 * length bytes)) e ∙ take-written (2 * length bytes) (digitOf 16 bytes) was
+
+  pub halves-long : 2 * length bytes ≡ length (take (2 * length bytes) halves)
+  halves-long = sym (ap length its-halves ∙ length-tabulate (2 * length bytes) (digitOf 16 bytes))
+
+  pub pairs-written : (out last : List ℕ) → last ≡ written (2 * length (take (2 * length bytes) halves)) (digitOf 4 (take (2 * length bytes) halves)) out
+      → last ≡ written (4 * length bytes) (pairAt (bitOf bytes)) out
+  pairs-written out last f =
+      let b : 2 * length (take (2 * length bytes) halves) ≡ 4 * length bytes = omega (arith, halves-long) in
+      f
+      ∙ ap (λ (i : ℕ). written i (digitOf 4 (take (2 * length bytes) halves)) out) b
+      ∙ written-ext (4 * length bytes) (digitOf 4 (take (2 * length bytes) halves)) (pairAt (bitOf bytes)) out (digits-pairs bytes (take (2 * length bytes) halves) its-halves)
+
+pub listed-twice : (l m : ℕ) (p : ℕ → ℕ) (out now part : List ℕ) → m ≡ l + l → now ≡ written l p out → part ≡ written l p (take (length now - l) (drop l now))
+    → take l now ++ (part ++ drop (length now - l) (drop l now)) ≡ written m (twice l p) out
 unfolding twice
-listed-twice l m p out now later q e f =
-    f ∙ ap (λ (n : List ℕ). written (l + l) (λ t. getD n (t % l) 0) n) e ∙ written-over l (l + l) _ p out (omega arith)
-    ∙ written-ext (l + l) _ (λ t. p (t % l)) out (λ t h. getD-written l p out (t % l) 0 (mod-lt t (omega arith)))
-    ∙ ap (λ (k : ℕ). written k (λ t. p (t % l)) out) (sym q)
+listed-twice l m p out now part q e f =
+    written-all _ _ _ _ _
+    (written-part l l (λ t. p (t % l)) p out now part (e ∙ written-ext l p (λ t. p (t % l)) out (λ t h. ap p (sym (mod-eq-of-lt h)))) (λ j h. ap p (sym (again j h))) f) (sym q)
+  where
+    again : (j : ℕ) → j < l → (l + j) % l ≡ j
+    again j h = ap (λ (k : ℕ). (k + j) % l) (sym (one-mul l)) ∙ digits-mod 1 h
 
 -- ---- the places of four rows
 

@@ -1,9 +1,15 @@
 -- The pair interleaver a byte at a time: the block's pairs are listed twice and read off four rows at a time. Assumes nothing.
 use mathlib.Core.Path.{_≡_}
+use mathlib.Core.Bool.{cond}
 use mathlib.Core.List.{List}
 use Prim.Native.Nat.{ℕ, _+_, _-_, _*_, _/_, _%_, _≤_, _<_}
+use lib.Dec.{eqb}
 use lib.ListN.{length, getD}
 use Rattle.turbo.specs.Interleave.{exchanged}
+
+-- the two digits of each element to some base, one after the other
+unfoldable pub digitOf : ℕ → List ℕ → ℕ → ℕ
+digitOf base src t = cond (eqb (t % 2) 0) (getD src (t / 2) 0 / base) (getD src (t / 2) 0) % base
 
 -- l elements, and the same again
 unfoldable pub twice : ℕ → (ℕ → ℕ) → ℕ → ℕ

@@ -1,5 +1,6 @@
 -- `turbo::exchange` meets its contract. Assumes nothing.
-use native.Mathlib.Omega.{arith}
+use mathlib.Core.Path.{ap₂, _∙_}
+use Prim.Native.Nat.{ℕ, _+_, _*_, _/_, _%_}
 use borrow.Author.Needs.{needs}
 use Rattle.turbo.specs.Gather.{exchangedByte}
 use Rattle.turbo.proofs.exchange.Statement.{statement}
@@ -17,7 +18,9 @@ four-requires c κs = search needs
 returns : tie.Need-returns
 unfolding exchangedByte
 returns c =
-    omega (arith, c .four .ensures, c .before .exchanged-pair2 .ensures, c .before .before .exchanged-pair .ensures)
+    let b : ℕ = c .before .before .before .args .byte in
+    c .four .ensures
+    ∙ ap₂ (λ (x y : ℕ). x * 64 + b / 16 % 4 * 16 + y * 4 + b % 4) (c .before .before .exchanged-pair .ensures) (c .before .exchanged-pair2 .ensures)
 
 pub exchange-spec : {M : Type 1} → statement M
 exchange-spec =
