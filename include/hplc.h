@@ -74,12 +74,12 @@ enum hplc_number {
  * Stack of a call in bytes, on x86-64: measured over every mode (tests/stack.sh), not proved. CARD is of each call about cards, POINT of
  * each about points, places and sub-carriers.
  */
-#define HPLC_STACK_CARD 0
-#define HPLC_STACK_POINT 0
-#define HPLC_STACK_FC_SEND 0
-#define HPLC_STACK_FC_READ 0
-#define HPLC_STACK_PAYLOAD_SEND 0
-#define HPLC_STACK_PAYLOAD_READ 0
+#define HPLC_STACK_CARD 5632
+#define HPLC_STACK_POINT 512
+#define HPLC_STACK_FC_SEND 9216
+#define HPLC_STACK_FC_READ 9216
+#define HPLC_STACK_PAYLOAD_SEND 16384
+#define HPLC_STACK_PAYLOAD_READ 31744
 
 /* The library's version, as HPLC_VERSION has it. */
 uint32_t hplc_version(void);
