@@ -2,7 +2,7 @@
 # The header as C and as C++, each warning an error; the example program linked, run, and held to what it must print.
 set -eu
 cd "$(dirname "$0")/.."
-rt staticlib tester > /dev/null
+tests/library.sh
 library=target/staticlib/libtester.a
 work=$(mktemp -d)
 trap 'rm -rf "$work"' EXIT

@@ -5,7 +5,7 @@
 set -eu
 cd "$(dirname "$0")/.."
 library() {
-  rt staticlib tester > /dev/null
+  tests/library.sh
   HPLC_LIB_DIR=$PWD/target/staticlib build --features entries
 }
 build() { cargo build --quiet --release --offline --manifest-path reference/Cargo.toml "$@"; }

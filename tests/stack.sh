@@ -2,7 +2,7 @@
 # The stack that each call takes is what include/hplc.h states.
 set -eu
 cd "$(dirname "$0")/.."
-rt staticlib tester > /dev/null
+tests/library.sh
 work=$(mktemp -d)
 trap 'rm -rf "$work"' EXIT
 gcc -std=c99 -D_XOPEN_SOURCE=600 -Wall -Wextra -Wpedantic -Werror -Iinclude tests/stack.c target/staticlib/libtester.a -o "$work/stack"
