@@ -2,45 +2,26 @@
 // the card is good, its fields.
 use card::Card;
 use libc::STDOUT_FILENO;
-use refusal::Answer;
-
-fn put(text: &[u8]) {
-    io::write_all(STDOUT_FILENO, text);
-}
-
-fn put_number(n: u64) {
-    put(b" ");
-    io::print_decimal(STDOUT_FILENO, n);
-}
-
-// The number of an answer and what comes with it.
-fn put_answer(a: Answer) -> u32 {
-    let mut value = [0u64; 2];
-    let n = refusal::report(a, &mut value);
-    put_number(n as u64);
-    put_number(value[0]);
-    n
-}
 
 fn put_fields(fields: [u64; 8]) {
-    put_number(fields[0]);
-    put_number(fields[1]);
-    put_number(fields[2]);
-    put_number(fields[3]);
-    put_number(fields[4]);
-    put_number(fields[5]);
-    put_number(fields[6]);
-    put_number(fields[7]);
+    command::put_number(fields[0]);
+    command::put_number(fields[1]);
+    command::put_number(fields[2]);
+    command::put_number(fields[3]);
+    command::put_number(fields[4]);
+    command::put_number(fields[5]);
+    command::put_number(fields[6]);
+    command::put_number(fields[7]);
 }
 
 // Reads a card.
 fn read(name: &[u8], card: &[u8]) {
     let mut fields = [7u64; 8];
     let answer = card::read_fields(card, &mut fields);
-    put(name);
-    put_answer(answer);
+    command::put(name);
+    command::put_answer(answer);
     put_fields(fields);
-    put(b"\n");
+    command::put(b"\n");
 }
 
 // The example card, with other first bytes and another serial.
@@ -122,7 +103,7 @@ fn put_mode(m: u8) {
     let mut value = [0u64; 2];
     io::print_decimal(STDOUT_FILENO, refusal::report(answer, &mut value) as u64);
     if m % 8 == 7 {
-        put(b"\n");
+        command::put(b"\n");
     }
 }
 
@@ -144,11 +125,11 @@ fn put_hex(bytes: &[u8]) {
 // Writes a card, and shows all of the room.
 fn write(name: &[u8], c: Card, out: &mut [u8]) {
     let answer = card::write_card(c, out);
-    put(name);
-    put_answer(answer);
-    put(b" ");
+    command::put(name);
+    command::put_answer(answer);
+    command::put(b" ");
     put_hex(out);
-    put(b"\n");
+    command::put(b"\n");
 }
 
 // Writes a card where there is just room for it.
@@ -208,20 +189,20 @@ fn orders() {
 // Prints a card as text, and shows all of the room.
 fn print(name: &[u8], card: &[u8], out: &mut [u8]) {
     let answer = card::card_text(card, out);
-    put(name);
-    put_answer(answer);
-    put(b"\n");
-    put(out);
+    command::put(name);
+    command::put_answer(answer);
+    command::put(b"\n");
+    command::put(out);
 }
 
 fn prints() {
     let card = [0x12, 0x58, 0x8E, 0, 0x20, 0, 0, 0, 0, 0, 1];
     let mut less = [b'.'; 84];
     print(b"text, one byte less", &card, &mut less);
-    put(b"\n");
+    command::put(b"\n");
     let mut more = [b'.'; 86];
     print(b"text, one byte more", &card, &mut more);
-    put(b"\n");
+    command::put(b"\n");
     let mut exact = [b'.'; 85];
     print(b"text", &card, &mut exact);
     let mut short = [b'.'; 10];

@@ -19,7 +19,9 @@ fn decode(card: &[u8], items: &[u8]) {
     let mut bytes = [0u8; 520];
     match job::read(card, items, &mut bytes) {
         Answer::Done(n) => put_hex(&bytes, n),
-        Answer::Refused(r) => command::put_refusal(r),
+        Answer::Refused(r) => {
+            command::put_refusal(r);
+        }
     }
 }
 

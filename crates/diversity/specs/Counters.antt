@@ -1,4 +1,4 @@
--- Counters of votes, one for each of B coded bits: up for a one, down for a zero. Assumes nothing.
+-- Counters of votes, one for each of B coded bits: up for a one, down for a zero. Only loops cite it. Assumes nothing.
 use mathlib.Core.Bool.{Bool}
 use mathlib.Core.List.{List}
 use Prim.Native.Nat.{ℕ, _+_, _-_}

@@ -1,5 +1,5 @@
 -- The ring, whose places in a row the items of each symbol ride: even places are of lane I and odd ones of lane Q. A turn is 512
--- places, after which the bits come again. Assumes nothing.
+-- places, after which the bits come again. Only loops cite it. Assumes nothing.
 use mathlib.Core.List.{List}
 use Prim.Native.Nat.{ℕ, _+_, _*_, _/_, _%_}
 use lib.ListN.{getD}

@@ -1,4 +1,5 @@
--- Counters of votes, of 8 bits, one for each place of the ring, and what those of a bit come to. Assumes nothing.
+-- Counters of votes, of 8 bits, one for each place of the ring, and what those of a bit come to. Only loops cite it. Assumes
+-- nothing.
 use mathlib.Core.Bool.{cond}
 use mathlib.Core.List.{List}
 use Prim.Native.Nat.{ℕ, _+_, _-_, _*_, _/_, _%_, _≤_, _<_}

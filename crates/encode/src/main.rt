@@ -9,7 +9,9 @@ fn encode(card: &[u8], block: &[u8]) {
     let mut items = [0u8; 9864];
     match job::send(card, block, &mut items) {
         Answer::Done(n) => command::put_first(&items, n),
-        Answer::Refused(r) => command::put_refusal(r),
+        Answer::Refused(r) => {
+            command::put_refusal(r);
+        }
     }
 }
 

@@ -1,7 +1,6 @@
 // Runs the cases of paper 01 that concern frame control, and writes what each gives, a line a case: a name, the number, what comes
 // with it, and what was left in the lent memory. Another program finds the same lines by the paper's rules.
 use libc::STDOUT_FILENO;
-use refusal::Answer;
 ghost use Prim.Native.Nat.{_<_, _≤_};
 
 // The word, and a byte behind it.
@@ -59,23 +58,6 @@ const COPIES_1: [usize; 12] = [
     3065,
 ];
 
-fn put(text: &[u8]) {
-    io::write_all(STDOUT_FILENO, text);
-}
-
-fn put_number(n: u64) {
-    put(b" ");
-    io::print_decimal(STDOUT_FILENO, n);
-}
-
-// The number of an answer and what comes with it.
-fn put_answer(a: Answer) {
-    let mut value = [0u64; 2];
-    let n = refusal::report(a, &mut value);
-    put_number(n as u64);
-    put_number(value[0]);
-}
-
 fn wide(x: u8) -> u64
     ensures { λ r. ⌜ r < 256 ⌝ }
 {
@@ -126,11 +108,11 @@ fn send(name: &[u8], card: &[u8], word: &[u8], room: usize)
 {
     let mut out = [0xEEu8; 4096];
     let answer = frame_control::send(card, word, &mut out[..room]);
-    put(name);
-    put_answer(answer);
-    put_number(adler(&out));
-    put_number(wide(out[room - 1]));
-    put(b"\n");
+    command::put(name);
+    command::put_answer(answer);
+    command::put_number(adler(&out));
+    command::put_number(wide(out[room - 1]));
+    command::put(b"\n");
 }
 
 // Reads the first of some items where there is some room: all of the memory.
@@ -139,11 +121,11 @@ fn read(name: &[u8], card: &[u8], items: [u8; 4096], count: usize, room: usize)
 {
     let mut out = [0xEEu8; 17];
     let answer = frame_control::read(card, &items[..count], &mut out[..room]);
-    put(name);
-    put_answer(answer);
-    put(b" ");
+    command::put(name);
+    command::put_answer(answer);
+    command::put(b" ");
     put_hex(&out);
-    put(b"\n");
+    command::put(b"\n");
 }
 
 // Both sides of each length of sending.
@@ -306,8 +288,8 @@ fn cases(band: u8, needed: usize, copies: [usize; 12])
 }
 
 fn main() {
-    put(b"band 0\n");
+    command::put(b"band 0\n");
     cases(0, 3288, COPIES_0);
-    put(b"band 1\n");
+    command::put(b"band 1\n");
     cases(1, 3144, COPIES_1);
 }

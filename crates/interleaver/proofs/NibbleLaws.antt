@@ -10,7 +10,7 @@ use Rattle.bits.specs.Permutations.{Permutes}
 use Rattle.interleaver.specs.declared.Layout.{Layout}
 use Rattle.interleaver.specs.Layouts.{layoutOf}
 use Rattle.interleaver.specs.Source.{nibbleBit, column, sourceOf, codedOf, codedBits, source}
-use Rattle.interleaver.specs.Stores.{byteOf, stored, target, origin, carried}
+use Rattle.interleaver.specs.Stores.{wordByte, stored, target, origin, carried}
 use Rattle.interleaver.proofs.SourceLaws.{column-apart, column-source}
 use Rattle.interleaver.proofs.StoreLaws.{stored-none, stored-append, stored-ext, stored-reordered}
 
@@ -25,9 +25,9 @@ columns-permute n = record { below = λ b h. omega arith; apart = column-apart n
 
 module _ (n first height : ℕ) (back : Bool) (from to now : List ℕ) (word x : ℕ) where
   -- a word read from four columns and turned on the way out
-  pub nibble-out : back ≡ false → ((c : ℕ) → c < 4 → byteOf word c ≡ getD from (c * height + first) 0)
-      → ((b : ℕ) → b < 4 → byteOf x b ≡ byteOf word (column n b))
-      → now ≡ stored 4 (λ b. b * 1 + n * 4) (byteOf x) to
+  pub nibble-out : back ≡ false → ((c : ℕ) → c < 4 → wordByte word c ≡ getD from (c * height + first) 0)
+      → ((b : ℕ) → b < 4 → wordByte x b ≡ wordByte word (column n b))
+      → now ≡ stored 4 (λ b. b * 1 + n * 4) (wordByte x) to
       → Moved n first height back from to now
   nibble-out way read turned e =
       rw way
@@ -37,13 +37,13 @@ module _ (n first height : ℕ) (back : Bool) (from to now : List ℕ) (word x :
 
   -- a word read from the coded bits and turned on the way back
   pub nibble-back : back ≡ true → zero < height → first + 3 * height < length to
-      → ((b : ℕ) → b < 4 → byteOf word b ≡ getD from (b * 1 + n * 4) 0)
-      → ((c : ℕ) → c < 4 → byteOf x c ≡ byteOf word ((c + (4 - (4 - n / 2 % 4) % 4)) % 4))
-      → now ≡ stored 4 (λ c. c * height + first) (byteOf x) to
+      → ((b : ℕ) → b < 4 → wordByte word b ≡ getD from (b * 1 + n * 4) 0)
+      → ((c : ℕ) → c < 4 → wordByte x c ≡ wordByte word ((c + (4 - (4 - n / 2 % 4) % 4)) % 4))
+      → now ≡ stored 4 (λ c. c * height + first) (wordByte x) to
       → Moved n first height back from to now
   nibble-back way pos room read turned e =
       rw way
-      (e ∙ stored-reordered 4 (column n) (λ c. c * height + first) (byteOf x) to (columns-permute n) apart within
+      (e ∙ stored-reordered 4 (column n) (λ c. c * height + first) (wordByte x) to (columns-permute n) apart within
       ∙ stored-ext 4 _ _ _ _ to (λ b h. refl) value)
     where
       apart : (j k : ℕ) → j < 4 → k < 4 → j * height + first ≡ k * height + first → j ≡ k
@@ -52,11 +52,11 @@ module _ (n first height : ℕ) (back : Bool) (from to now : List ℕ) (word x :
       within : (k : ℕ) → k < 4 → k * height + first < length to
       within k h = omega (arith, mul-le-mul-right {m = k} {n = 3} height (omega arith))
 
-      value : (b : ℕ) → b < 4 → byteOf x (column n b) ≡ getD from (n * 4 + b) 0
+      value : (b : ℕ) → b < 4 → wordByte x (column n b) ≡ getD from (n * 4 + b) 0
       value b h =
           let i : (column n b + (4 - (4 - n / 2 % 4) % 4)) % 4 ≡ b = omega arith in
           let j : b * 1 + n * 4 ≡ n * 4 + b = omega arith in
-          turned (column n b) (omega arith) ∙ ap (byteOf word) i ∙ read b h ∙ ap (λ (y : ℕ). getD from y 0) j
+          turned (column n b) (omega arith) ∙ ap (wordByte word) i ∙ read b h ∙ ap (λ (y : ℕ). getD from y 0) j
 
 module _ (L : Layout) (back : Bool) (from : List ℕ) where
   -- where bit i is stored, and what is stored there

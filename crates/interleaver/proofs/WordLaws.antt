@@ -3,7 +3,7 @@ use mathlib.Core.Path.{_≡_, refl, ap, ap₂, _∙_}
 use Prim.Native.Nat.{ℕ, zero, suc, _+_, _-_, _*_, _/_, _%_, _^_, _<_}
 use native.Mathlib.Omega.{arith}
 use lib.Bits.{bitOr, or-self, or-shifted}
-use Rattle.interleaver.specs.Stores.{byteOf}
+use Rattle.interleaver.specs.Stores.{wordByte}
 
 -- what holds at 0, 1, 2 and 3 holds below 4
 pub below-four : (P : ℕ → Type 0) → P 0 → P 1 → P 2 → P 3 → (k : ℕ) → k < 4 → P k
@@ -13,8 +13,8 @@ below-four P a b c d (suc (suc zero)) h = c
 below-four P a b c d (suc (suc (suc zero))) h = d
 below-four P a b c d (suc (suc (suc (suc k)))) h = absurd (omega arith)
 
-pub low-byte : {x : ℕ} (w : ℕ) → x ≡ w % 256 → x ≡ byteOf w 0
-unfolding byteOf
+pub low-byte : {x : ℕ} (w : ℕ) → x ≡ w % 256 → x ≡ wordByte w 0
+unfolding wordByte
 low-byte w e = omega arith
 
 -- the word of four bytes, the lowest first
@@ -22,10 +22,10 @@ abbrev joined : ℕ → ℕ → ℕ → ℕ → ℕ
 joined a b c d = a + b * 256 + c * 65536 + d * 16777216
 
 pub joined-byte : (f : ℕ → ℕ) (a b c d : ℕ) → a < 256 → b < 256 → c < 256 → d < 256 → a ≡ f 0 → b ≡ f 1 → c ≡ f 2 → d ≡ f 3
-    → (k : ℕ) → k < 4 → byteOf (joined a b c d) k ≡ f k
-unfolding byteOf
+    → (k : ℕ) → k < 4 → wordByte (joined a b c d) k ≡ f k
+unfolding wordByte
 joined-byte f a b c d ha hb hc hd ea eb ec ed =
-    below-four (λ k. byteOf (joined a b c d) k ≡ f k) (omega arith) (omega arith) (omega arith) (omega arith)
+    below-four (λ k. wordByte (joined a b c d) k ≡ f k) (omega arith) (omega arith) (omega arith) (omega arith)
 
 -- a word turned left by bytes
 abbrev pub rotated : ℕ → ℕ → ℕ
@@ -62,30 +62,30 @@ module _ (a b c d : ℕ) (ha : a < 256) (hb : b < 256) (hc : c < 256) (hd : d < 
       ∙ or-shifted a 24 (b + c * 256 + d * 65536) (omega arith) ∙ omega arith
 
 module _ (w : ℕ) (hw : w < 4294967296) where
-  byte-lt : (k : ℕ) → byteOf w k < 256
-  unfolding byteOf
+  byte-lt : (k : ℕ) → wordByte w k < 256
+  unfolding wordByte
   byte-lt k = omega arith
 
-  whole : w ≡ joined (byteOf w 0) (byteOf w 1) (byteOf w 2) (byteOf w 3)
-  unfolding byteOf
+  whole : w ≡ joined (wordByte w 0) (wordByte w 1) (wordByte w 2) (wordByte w 3)
+  unfolding wordByte
   whole =
       from-digits w (w / 256) (w / 65536) (w / 1 % 256) (w / 256 % 256) (w / 65536 % 256) (w / 16777216 % 256)
       (omega arith) (omega arith) (omega arith)
 
   -- a word of these bytes has them
-  bytes : (f : ℕ → ℕ) (x : ℕ) → x ≡ joined (byteOf w (f 0)) (byteOf w (f 1)) (byteOf w (f 2)) (byteOf w (f 3))
-      → (b : ℕ) → b < 4 → byteOf x b ≡ byteOf w (f b)
+  bytes : (f : ℕ → ℕ) (x : ℕ) → x ≡ joined (wordByte w (f 0)) (wordByte w (f 1)) (wordByte w (f 2)) (wordByte w (f 3))
+      → (b : ℕ) → b < 4 → wordByte x b ≡ wordByte w (f b)
   bytes f x e b h =
-      ap (λ (y : ℕ). byteOf y b) e
-      ∙ joined-byte (λ k. byteOf w (f k)) _ _ _ _ (byte-lt (f 0)) (byte-lt (f 1)) (byte-lt (f 2)) (byte-lt (f 3)) refl refl refl refl b h
+      ap (λ (y : ℕ). wordByte y b) e
+      ∙ joined-byte (λ k. wordByte w (f k)) _ _ _ _ (byte-lt (f 0)) (byte-lt (f 1)) (byte-lt (f 2)) (byte-lt (f 3)) refl refl refl refl b h
 
-  pub rotated-byte : (t : ℕ) → t < 4 → (b : ℕ) → b < 4 → byteOf (rotated w t) b ≡ byteOf w ((b + (4 - t)) % 4)
+  pub rotated-byte : (t : ℕ) → t < 4 → (b : ℕ) → b < 4 → wordByte (rotated w t) b ≡ wordByte w ((b + (4 - t)) % 4)
   rotated-byte =
-      below-four (λ t. (b : ℕ) → b < 4 → byteOf (rotated w t) b ≡ byteOf w ((b + (4 - t)) % 4))
+      below-four (λ t. (b : ℕ) → b < 4 → wordByte (rotated w t) b ≡ wordByte w ((b + (4 - t)) % 4))
       (bytes (λ b. (b + 4) % 4) (rotated w 0) (turn 0 ∙ none _ _ _ _ (byte-lt 0) (byte-lt 1) (byte-lt 2) (byte-lt 3)))
       (bytes (λ b. (b + 3) % 4) (rotated w 1) (turn 1 ∙ one _ _ _ _ (byte-lt 0) (byte-lt 1) (byte-lt 2) (byte-lt 3)))
       (bytes (λ b. (b + 2) % 4) (rotated w 2) (turn 2 ∙ two _ _ _ _ (byte-lt 0) (byte-lt 1) (byte-lt 2) (byte-lt 3)))
       (bytes (λ b. (b + 1) % 4) (rotated w 3) (turn 3 ∙ three _ _ _ _ (byte-lt 0) (byte-lt 1) (byte-lt 2) (byte-lt 3)))
     where
-      turn : (t : ℕ) → rotated w t ≡ rotated (joined (byteOf w 0) (byteOf w 1) (byteOf w 2) (byteOf w 3)) t
+      turn : (t : ℕ) → rotated w t ≡ rotated (joined (wordByte w 0) (wordByte w 1) (wordByte w 2) (wordByte w 3)) t
       turn t = ap (λ (x : ℕ). rotated x t) whole

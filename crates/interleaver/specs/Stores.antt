@@ -24,5 +24,5 @@ carried L back from n m to =
     stored ((m - n) * 4) (λ i. target back (sourceOf L) (n * 4 + i)) (λ i. getD from (origin back (sourceOf L) (n * 4 + i)) 0) to
 
 -- byte c of a word, from the lowest
-unfoldable pub byteOf : ℕ → ℕ → ℕ
-byteOf word c = word / 256 ^ c % 256
+unfoldable pub wordByte : ℕ → ℕ → ℕ
+wordByte word c = word / 256 ^ c % 256

@@ -1,4 +1,4 @@
--- Where a pass stands, where the joined stream does, and where a run of pairs does. Assumes nothing.
+-- Where a pass stands, where the joined stream does, and where a run of pairs does. Only loops cite it. Assumes nothing.
 use mathlib.Core.Path.{_≡_}
 use mathlib.Core.Bool.{cond}
 use Prim.Native.Nat.{ℕ, _+_, _-_, _*_, _<_, _≤_}

@@ -11,7 +11,7 @@ ghost use Rattle.interleaver.specs.Rows.{passes, movedRow};
 ghost use Rattle.interleaver.specs.Layouts.{Defined, Sound, Small, Near, Paired, layoutOf};
 ghost use Rattle.interleaver.specs.Source.{isParity, dataPlace, column, codedOf, codedBits, source, codedAt};
 ghost use Rattle.interleaver.specs.Walks.{OnPass, parityPlace, untilParity, Stands, Runs};
-ghost use Rattle.interleaver.specs.Stores.{byteOf, stored, target, origin, carried};
+ghost use Rattle.interleaver.specs.Stores.{wordByte, stored, target, origin, carried};
 
 // The numbers of the interleaver at one kind and rate.
 pub struct Layout {
@@ -96,7 +96,7 @@ fn low(word: u32) -> u8
 // Four bytes, from a place on and evenly apart, as a word.
 fn gather(from: &[u8], at: usize, apart: usize) -> u32
     requires { ⌜ at + 3 * apart < length (now from) ⌝ }
-    ensures { λ r. ⌜ ((c : ℕ) → c < 4 → byteOf r c ≡ getD (now (from .entry)) (c * apart + at) 0) ⌝ }
+    ensures { λ r. ⌜ ((c : ℕ) → c < 4 → wordByte r c ≡ getD (now (from .entry)) (c * apart + at) 0) ⌝ }
 {
     let a = wide(from[at]);
     let b = wide(from[apart + at]);
@@ -108,7 +108,7 @@ fn gather(from: &[u8], at: usize, apart: usize) -> u32
 // A word's four bytes, stored from a place on and evenly apart.
 fn scatter(word: u32, at: usize, apart: usize, to: &mut [u8])
     requires { ⌜ at + 3 * apart < length (now to) ⌝ }
-    ensures { λ _. ⌜ now (to .exit) ≡ stored 4 (λ c. c * apart + at) (byteOf word) (now (to .entry)) ⌝ }
+    ensures { λ _. ⌜ now (to .exit) ≡ stored 4 (λ c. c * apart + at) (wordByte word) (now (to .entry)) ⌝ }
 {
     to[at] = low(word);
     to[apart + at] = low(word / 256);
@@ -119,7 +119,7 @@ fn scatter(word: u32, at: usize, apart: usize, to: &mut [u8])
 // A word whose bytes are turned up so many places.
 fn turned(word: u32, turn: u32) -> u32
     requires { ⌜ turn < 4 ⌝ }
-    ensures { λ r. ⌜ ((b : ℕ) → b < 4 → byteOf r b ≡ byteOf word ((b + (4 - turn)) % 4)) ⌝ }
+    ensures { λ r. ⌜ ((b : ℕ) → b < 4 → wordByte r b ≡ wordByte word ((b + (4 - turn)) % 4)) ⌝ }
 {
     (word << (turn * 8)) | (word >> ((32 - turn * 8) % 32))
 }

@@ -1,30 +1,11 @@
 // Runs every payload mode there and back, and writes a line for each: the items that it needs, then the number and what comes with it
 // for a block of one byte less and one more, and for room of one item less, just enough and one more; and the same of reading what was
 // sent, for items and for room in bytes. `kept` says that the byte beyond kept its contents, and `same` that the block came back.
-use libc::STDOUT_FILENO;
-use refusal::Answer;
 ghost use Prim.Native.Nat.{_<_, _≤_};
 ghost use lib.ListN.{length};
 
 // What the room holds before anything is written.
 const UNWRITTEN: u8 = 0xEE;
-
-fn put(text: &[u8]) {
-    io::write_all(STDOUT_FILENO, text);
-}
-
-fn put_number(n: u64) {
-    put(b" ");
-    io::print_decimal(STDOUT_FILENO, n);
-}
-
-// The number of an answer and what comes with it.
-fn put_answer(a: Answer) {
-    let mut value = [0u64; 2];
-    let n = refusal::report(a, &mut value);
-    put_number(n as u64);
-    put_number(value[0]);
-}
 
 // The next state of the generator of block bytes.
 fn next(state: u64) -> u64 {
@@ -98,14 +79,14 @@ fn needed_items(card: [u8; 11], block: &[u8]) -> usize
 fn send_case(card: [u8; 11], bytes: &[u8], size: usize, items: &mut [u8], room: usize)
     requires { ⌜ (size ≤ length (now bytes)) × (room ≤ length (now items)) ⌝ }
 {
-    put_answer(payload::send(&card, &bytes[..size], &mut items[..room]));
+    command::put_answer(payload::send(&card, &bytes[..size], &mut items[..room]));
 }
 
 // Reads the first items into the first bytes.
 fn read_case(card: [u8; 11], items: &[u8], count: usize, back: &mut [u8], room: usize)
     requires { ⌜ (count ≤ length (now items)) × (room ≤ length (now back)) ⌝ }
 {
-    put_answer(payload::read(&card, &items[..count], &mut back[..room]));
+    command::put_answer(payload::read(&card, &items[..count], &mut back[..room]));
 }
 
 // Whether the first bytes are the same.
@@ -118,7 +99,7 @@ fn same_block(a: &[u8], b: &[u8], size: usize) -> bool
 // Says that a byte was not written.
 fn put_kept(byte: u8) {
     if byte == UNWRITTEN {
-        put(b" kept");
+        command::put(b" kept");
     }
 }
 
@@ -127,17 +108,17 @@ fn read_back(card: [u8; 11], items: &[u8], needed: usize, bytes: &[u8], size: us
     requires { ⌜ (0 < size) × (size ≤ 520) × (size ≤ length (now bytes)) × (0 < needed) × (needed < length (now items)) ⌝ }
 {
     let mut back = [UNWRITTEN; 521];
-    put(b" read");
+    command::put(b" read");
     read_case(card, items, needed - 1, &mut back, size);
     read_case(card, items, needed + 1, &mut back, size);
     read_case(card, items, needed, &mut back, size - 1);
     read_case(card, items, needed, &mut back, size);
     if same_block(&back, bytes, size) {
-        put(b" same");
+        command::put(b" same");
     }
     read_case(card, items, needed, &mut back, size + 1);
     put_kept(back[size]);
-    put(b"\n");
+    command::put(b"\n");
 }
 
 // Sends the first bytes, of which there is one more, and reads what was sent.
@@ -145,8 +126,8 @@ fn there_and_back(card: [u8; 11], bytes: &[u8], size: usize)
     requires { ⌜ (0 < size) × (size ≤ 520) × (size < length (now bytes)) ⌝ }
 {
     let needed = needed_items(card, &bytes[..size]);
-    put_number(needed as u64);
-    put(b" send");
+    command::put_number(needed as u64);
+    command::put(b" send");
     let mut items = [UNWRITTEN; 16384];
     send_case(card, bytes, size - 1, &mut items, needed);
     send_case(card, bytes, size + 1, &mut items, needed);
@@ -173,15 +154,15 @@ fn run(m: u64) {
     let rate = row / 4;
     let kind = row + 1 - rate;
     let modulation = m % 3;
-    put(b"band");
-    put_number(band);
-    put(b" kind");
-    put_number(kind);
-    put(b" rate");
-    put_number(rate);
-    put(b" modulation");
-    put_number(modulation);
-    put(b":");
+    command::put(b"band");
+    command::put_number(band);
+    command::put(b" kind");
+    command::put_number(kind);
+    command::put(b" rate");
+    command::put_number(rate);
+    command::put(b" modulation");
+    command::put_number(modulation);
+    command::put(b":");
     run_block(
         card_of(band, kind, rate, modulation),
         block_size(row),

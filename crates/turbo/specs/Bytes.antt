@@ -1,4 +1,4 @@
--- The encoders a byte at a time: four pairs in one step. Assumes nothing.
+-- The encoders a byte at a time: four pairs in one step. Only loops cite it. Assumes nothing.
 use mathlib.Core.Path.{_≡_}
 use mathlib.Core.List.{List}
 use Prim.Native.Nat.{ℕ, zero, suc, _+_, _-_, _*_, _/_, _%_, _^_, _<_}

@@ -1,4 +1,5 @@
--- The pair interleaver a byte at a time: the block's pairs are listed twice and read off four rows at a time. Assumes nothing.
+-- The pair interleaver a byte at a time: the block's pairs are listed twice and read off four rows at a time. Only loops cite it. Assumes
+-- nothing.
 use mathlib.Core.Path.{_≡_}
 use mathlib.Core.Bool.{cond}
 use mathlib.Core.List.{List}

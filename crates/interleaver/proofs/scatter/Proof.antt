@@ -4,7 +4,7 @@ use Prim.Native.Nat.{_+_, _*_}
 use native.Mathlib.Omega.{arith}
 use denote.Ref.{now}
 use lib.ListN.{length-set}
-use Rattle.interleaver.specs.Stores.{byteOf}
+use Rattle.interleaver.specs.Stores.{wordByte}
 use Rattle.interleaver.proofs.StoreLaws.{stored-four}
 use Rattle.interleaver.proofs.WordLaws.{low-byte}
 use borrow.Author.Needs.{needs}
@@ -54,11 +54,11 @@ same-length : tie.Need-same-length
 same-length c = search needs
 
 returns : tie.Need-returns
-unfolding byteOf
+unfolding wordByte
 returns c =
     let s = c .before .before .before .before .before in
     let w = s .args .word in
-    stored-four (λ k. k * s .args .apart + s .args .at) (byteOf w) (now (s .args .to))
+    stored-four (λ k. k * s .args .apart + s .args .at) (wordByte w) (now (s .args .to))
     (omega arith) (omega arith) refl refl
     (low-byte w (c .before .before .before .low .ensures)) (c .before .before .low2 .ensures) (c .before .low3 .ensures) (c .low4 .ensures)
 
