@@ -2,9 +2,7 @@
 pub mod PassLaws
 pub mod SourceLaws
 pub mod LayoutLaws
-pub mod StoreLaws
 pub mod InterleaverLaws
-pub mod WordLaws
 pub mod WalkLaws
 pub mod StreamLaws
 pub mod NibbleLaws

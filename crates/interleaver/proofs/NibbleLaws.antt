@@ -10,9 +10,10 @@ use Rattle.bits.specs.Permutations.{Permutes}
 use Rattle.interleaver.specs.declared.Layout.{Layout}
 use Rattle.interleaver.specs.Layouts.{layoutOf}
 use Rattle.interleaver.specs.Source.{nibbleBit, column, sourceOf, codedOf, codedBits, source}
-use Rattle.interleaver.specs.Stores.{wordByte, stored, target, origin, carried}
+use Rattle.words.specs.Words.{wordByte, stored}
+use Rattle.interleaver.specs.Stores.{target, origin, carried}
 use Rattle.interleaver.proofs.SourceLaws.{column-apart, column-source}
-use Rattle.interleaver.proofs.StoreLaws.{stored-none, stored-append, stored-ext, stored-reordered}
+use Rattle.words.proofs.StoreLaws.{stored-none, stored-append, stored-ext, stored-reordered}
 
 -- the buffer after nibble n, whose source bit of column c is c * height + first, is moved
 abbrev Moved : ℕ → ℕ → ℕ → Bool → List ℕ → List ℕ → List ℕ → Type 0

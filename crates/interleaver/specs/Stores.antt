@@ -1,15 +1,11 @@
--- Stores into a buffer, one after the other. Assumes nothing.
+-- Bits carried from one buffer to another, nibble by nibble. Assumes nothing.
 use mathlib.Core.Bool.{Bool, cond}
 use mathlib.Core.List.{List}
-use Prim.Native.Nat.{ℕ, zero, suc, _+_, _-_, _*_, _/_, _%_, _^_}
-use lib.ListN.{getD, set}
+use Prim.Native.Nat.{ℕ, _+_, _-_, _*_}
+use lib.ListN.{getD}
+use Rattle.words.specs.Words.{stored}
 use Rattle.interleaver.specs.declared.Layout.{Layout}
 use Rattle.interleaver.specs.Source.{sourceOf}
-
--- the buffer after v 0 is stored at w 0, v 1 at w 1 and so on, n stores in all
-unfoldable pub stored : ℕ → (ℕ → ℕ) → (ℕ → ℕ) → List ℕ → List ℕ
-stored zero w v out = out
-stored (suc n) w v out = set (stored n w v out) (w n) (v n)
 
 -- where the i-th bit of an order s is stored, and where it is read: on the way out bit i is read at s i, on the way back bit s i at i
 abbrev pub target : Bool → (ℕ → ℕ) → ℕ → ℕ
@@ -22,7 +18,3 @@ origin back s i = cond back i (s i)
 unfoldable pub carried : Layout → Bool → List ℕ → ℕ → ℕ → List ℕ → List ℕ
 carried L back from n m to =
     stored ((m - n) * 4) (λ i. target back (sourceOf L) (n * 4 + i)) (λ i. getD from (origin back (sourceOf L) (n * 4 + i)) 0) to
-
--- byte c of a word, from the lowest
-unfoldable pub wordByte : ℕ → ℕ → ℕ
-wordByte word c = word / 256 ^ c % 256

@@ -11,7 +11,8 @@ ghost use Rattle.interleaver.specs.Rows.{passes, movedRow};
 ghost use Rattle.interleaver.specs.Layouts.{Defined, Sound, Small, Near, Paired, layoutOf};
 ghost use Rattle.interleaver.specs.Source.{isParity, dataPlace, column, codedOf, codedBits, source, codedAt};
 ghost use Rattle.interleaver.specs.Walks.{OnPass, parityPlace, untilParity, Stands, Runs};
-ghost use Rattle.interleaver.specs.Stores.{wordByte, stored, target, origin, carried};
+ghost use Rattle.words.specs.Words.{stored};
+ghost use Rattle.interleaver.specs.Stores.{target, origin, carried};
 
 // The numbers of the interleaver at one kind and rate.
 pub struct Layout {
@@ -79,51 +80,6 @@ fn moved_row(rows: usize, offset: usize, row: usize) -> usize
     if moved < rows { moved } else { moved - rows }
 }
 
-// A byte as a word.
-fn wide(b: u8) -> u32
-    ensures { λ r. ⌜ (r ≡ b) × (r < 256) ⌝ }
-{
-    b as u32
-}
-
-// A word's lowest byte.
-fn low(word: u32) -> u8
-    ensures { λ r. ⌜ r ≡ word % 256 ⌝ }
-{
-    (word % 256) as u8
-}
-
-// Four bytes, from a place on and evenly apart, as a word.
-fn gather(from: &[u8], at: usize, apart: usize) -> u32
-    requires { ⌜ at + 3 * apart < length (now from) ⌝ }
-    ensures { λ r. ⌜ ((c : ℕ) → c < 4 → wordByte r c ≡ getD (now (from .entry)) (c * apart + at) 0) ⌝ }
-{
-    let a = wide(from[at]);
-    let b = wide(from[apart + at]);
-    let c = wide(from[2 * apart + at]);
-    let d = wide(from[3 * apart + at]);
-    a + b * 256 + c * 65536 + d * 16777216
-}
-
-// A word's four bytes, stored from a place on and evenly apart.
-fn scatter(word: u32, at: usize, apart: usize, to: &mut [u8])
-    requires { ⌜ at + 3 * apart < length (now to) ⌝ }
-    ensures { λ _. ⌜ now (to .exit) ≡ stored 4 (λ c. c * apart + at) (wordByte word) (now (to .entry)) ⌝ }
-{
-    to[at] = low(word);
-    to[apart + at] = low(word / 256);
-    to[2 * apart + at] = low(word / 65536);
-    to[3 * apart + at] = low(word / 16777216);
-}
-
-// A word whose bytes are turned up so many places.
-fn turned(word: u32, turn: u32) -> u32
-    requires { ⌜ turn < 4 ⌝ }
-    ensures { λ r. ⌜ ((b : ℕ) → b < 4 → wordByte r b ≡ wordByte word ((b + (4 - turn)) % 4)) ⌝ }
-{
-    (word << (turn * 8)) | (word >> ((32 - turn * 8) % 32))
-}
-
 // The four bits of nibble n, whose source bit of column c is c * height + first, from source bits to coded bits or back.
 fn move_nibble(n: usize, first: usize, height: usize, back: bool, from: &[u8], to: &mut [u8])
     requires { ⌜ (0 < height) × (n * 4 + 4 ≤ length (now from)) × (n * 4 + 4 ≤ length (now to))
@@ -133,11 +89,11 @@ fn move_nibble(n: usize, first: usize, height: usize, back: bool, from: &[u8], t
 {
     let turn = (n / 2 % 4) as u32;
     if back {
-        let word = gather(from, n * 4, 1);
-        scatter(turned(word, (4 - turn) % 4), first, height, to);
+        let word = words::gather(from, n * 4, 1);
+        words::scatter(words::turned(word, (4 - turn) % 4), first, height, to);
     } else {
-        let word = gather(from, first, height);
-        scatter(turned(word, turn), n * 4, 1, to);
+        let word = words::gather(from, first, height);
+        words::scatter(words::turned(word, turn), n * 4, 1, to);
     }
 }
 

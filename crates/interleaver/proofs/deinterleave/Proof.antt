@@ -4,7 +4,7 @@ use denote.Ref.{now}
 use lib.ListN.{getD}
 use Rattle.interleaver.specs.Source.{codedBits, source, codedAt}
 use Rattle.interleaver.proofs.InterleaverLaws.{permutes}
-use Rattle.interleaver.proofs.StoreLaws.{stored-permuted}
+use Rattle.words.proofs.StoreLaws.{stored-permuted}
 use borrow.Author.Needs.{needs}
 use Rattle.interleaver.proofs.deinterleave.Statement.{statement}
 use Rattle.interleaver.proofs.deinterleave.Tie as tie

@@ -3,7 +3,7 @@ use mathlib.Core.Path.{_∙_}
 use denote.Ref.{now}
 use lib.ListN.{getD}
 use Rattle.interleaver.specs.Source.{codedBits, source}
-use Rattle.interleaver.proofs.StoreLaws.{stored-written}
+use Rattle.words.proofs.StoreLaws.{stored-written}
 use borrow.Author.Needs.{needs}
 use Rattle.interleaver.proofs.interleave.Statement.{statement}
 use Rattle.interleaver.proofs.interleave.Tie as tie

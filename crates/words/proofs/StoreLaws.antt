@@ -15,7 +15,7 @@ use Rattle.bits.specs.Permutations.{Permutes}
 use Rattle.bits.proofs.NumberLaws.{lt-cases}
 use Rattle.bits.proofs.ListLaws.{written-of, written-ext, lowest-at, lowest-below}
 use Rattle.bits.proofs.PermutationLaws.{inverse, inverse-after, after-inverse, inverse-lt}
-use Rattle.interleaver.specs.Stores.{stored}
+use Rattle.words.specs.Words.{stored}
 
 pub stored-none : (w v : ℕ → ℕ) (out : List ℕ) → out ≡ stored 0 w v out
 unfolding stored

@@ -1,13 +1,13 @@
--- `interleaver::gather` meets its contract. Assumes nothing.
+-- `words::gather` meets its contract. Assumes nothing.
 use mathlib.Core.Path.{ap, _∙_}
 use Prim.Native.Nat.{ℕ, _+_, _*_}
 use native.Mathlib.Omega.{arith}
 use denote.Ref.{now}
 use lib.ListN.{getD}
-use Rattle.interleaver.proofs.WordLaws.{joined-byte}
+use Rattle.words.proofs.WordLaws.{joined-byte}
 use borrow.Author.Needs.{needs}
-use Rattle.interleaver.proofs.gather.Statement.{statement}
-use Rattle.interleaver.proofs.gather.Tie as tie
+use Rattle.words.proofs.gather.Statement.{statement}
+use Rattle.words.proofs.gather.Tie as tie
 
 shared-slice-read-wide : tie.Need-shared-slice-read-wide
 shared-slice-read-wide c = search needs

@@ -1,9 +1,9 @@
--- `interleaver::turned` meets its contract. Assumes nothing.
+-- `words::turned` meets its contract. Assumes nothing.
 use native.Mathlib.Omega.{arith}
-use Rattle.interleaver.proofs.WordLaws.{rotated-byte}
+use Rattle.words.proofs.WordLaws.{rotated-byte}
 use borrow.Author.Needs.{needs}
-use Rattle.interleaver.proofs.turned.Statement.{statement}
-use Rattle.interleaver.proofs.turned.Tie as tie
+use Rattle.words.proofs.turned.Statement.{statement}
+use Rattle.words.proofs.turned.Tie as tie
 
 mul-result : tie.Need-mul-result
 mul-result c = search needs

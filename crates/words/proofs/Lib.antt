@@ -1,0 +1,3 @@
+-- Laws of words and of stores. Assumes nothing.
+pub mod StoreLaws
+pub mod WordLaws

@@ -1,0 +1,2 @@
+-- What the contracts and the laws of `words` cite. Assumes nothing.
+pub mod Words
