@@ -4,6 +4,7 @@
 ghost use mathlib.Core.Path.{_≡_};
 ghost use mathlib.Core.List.{_++_};
 ghost use Prim.Native.Nat.{_-_, _*_, _/_, _%_, _^_, _<_, _≤_};
+ghost use lib.Bits.{bitXor};
 ghost use lib.ListN.{length, getD, drop};
 ghost use Rattle.bits.specs.Lists.{tabulate, written, larger as largerOf, largest, firstAbove};
 ghost use Rattle.bits.specs.Bits.{bitAt, bitOf, nibble};
@@ -61,6 +62,19 @@ pub fn put(src: &[u8], out: &mut [u8])
     let mut i: usize = 0;
     while i < src.len() {
         out[i] = src[i];
+        i += 1;
+    }
+}
+
+// The exclusive-or of each byte with what stands at its place in `out`.
+pub fn add_bytes(bytes: &[u8], out: &mut [u8])
+    requires { ⌜ length (now bytes) ≤ length (now out) ⌝ }
+    ensures { λ _. ⌜ now (out .exit) ≡ written (length (now (bytes .entry)))
+        (λ k. bitXor (getD (now (bytes .entry)) k 0) (getD (now (out .entry)) k 0)) (now (out .entry)) ⌝ }
+{
+    let mut i: usize = 0;
+    while i < bytes.len() {
+        out[i] = bytes[i] ^ out[i];
         i += 1;
     }
 }

@@ -107,24 +107,11 @@ fn put_bytes(count: usize, out: &mut [u8])
     follow_bytes(count, out);
 }
 
-// The exclusive-or of each byte with what stands at its place in `out`.
-fn add_bytes(bytes: &[u8], out: &mut [u8])
-    requires { ⌜ length (now bytes) ≤ length (now out) ⌝ }
-    ensures { λ _. ⌜ now (out .exit) ≡ written (length (now (bytes .entry)))
-        (λ k. bitXor (getD (now (bytes .entry)) k 0) (getD (now (out .entry)) k 0)) (now (out .entry)) ⌝ }
-{
-    let mut i: usize = 0;
-    while i < bytes.len() {
-        out[i] = bytes[i] ^ out[i];
-        i += 1;
-    }
-}
-
 // A block, scrambled, at the start of `out`. Done twice it gives the block back, so it descrambles too.
 pub fn scramble(bytes: &[u8], out: &mut [u8])
     requires { ⌜ length (now bytes) ≤ length (now out) ⌝ }
     ensures { λ _. ⌜ now (out .exit) ≡ scramble (now (bytes .entry)) ++ drop (length (now (bytes .entry))) (now (out .entry)) ⌝ }
 {
     put_bytes(bytes.len(), out);
-    add_bytes(bytes, out);
+    bits::add_bytes(bytes, out);
 }

@@ -4,7 +4,7 @@ use native.Mathlib.Omega.{arith}
 use lib.Seq.{length-take-le}
 use borrow.Author.Needs.{needs}
 use Rattle.turbo.proofs.PunctureLaws.{kept-le}
-use Rattle.turbo.proofs.StepLaws.{few-pairs}
+use Rattle.constituent.proofs.PairLaws.{few-pairs}
 use Rattle.turbo_vectors.proofs.print_parity.Statement.{statement}
 use Rattle.turbo_vectors.proofs.print_parity.Tie as tie
 
