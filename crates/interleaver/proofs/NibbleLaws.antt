@@ -1,5 +1,5 @@
 -- Nibbles carried from rows to coded bits, or back. Assumes nothing.
-use mathlib.Core.Path.{_≡_, refl, sym, ap, ap₂, _∙_}
+use mathlib.Core.Path.{_≡_, sym, ap, ap₂, _∙_}
 use mathlib.Core.Bool.{Bool, true, false, cond}
 use mathlib.Core.List.{List}
 use Prim.Native.Nat.{ℕ, _+_, _-_, _*_, _/_, _%_, _<_, _≤_}
@@ -25,6 +25,7 @@ Moved n first back from to now =
 columns-permute : (n : ℕ) → Permutes 4 (column n)
 columns-permute n = record { below = λ b h. omega arith; apart = column-apart n }
 
+-- bytes that stand side by side
 side : (b a : ℕ) → b * 1 + a ≡ a + b
 side b a = omega arith
 

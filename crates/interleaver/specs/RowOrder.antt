@@ -1,5 +1,5 @@
--- A block's source bits row by row, as they are put in before the coded bits are taken from them: four bits to a row, first the data rows and
--- then the parity rows. Assumes nothing.
+-- A block's source bits in the list of rows, which is how the code takes and gives them: four bits to a row, first the data rows and then the
+-- parity rows. Assumes nothing.
 use mathlib.Core.Bool.{cond}
 use Prim.Native.Nat.{ℕ, _+_, _-_, _*_, _/_, _%_}
 use lib.Dec.{ltb}
@@ -7,7 +7,7 @@ use Rattle.interleaver.specs.declared.Layout.{Layout}
 use Rattle.interleaver.specs.Layouts.{layoutOf}
 use Rattle.interleaver.specs.Source.{dataRow, parityRow, groupOf, isParity, dataPlace, column}
 
--- the row, of all rows, that nibble n is
+-- the row that nibble n is, where all are numbered on
 unfoldable pub rowOf : Layout → ℕ → ℕ
 rowOf L n = cond (isParity L n) (L .rows + parityRow L (groupOf L n)) (dataRow L (dataPlace L n))
 
@@ -20,7 +20,7 @@ unfoldable pub sourceAt : Layout → ℕ → ℕ
 sourceAt L j =
     cond (ltb j (L .rows * 4)) (j % 4 * L .rows + j / 4) (L .rows * 4 + ((j - L .rows * 4) % 4 * L .parity + (j - L .rows * 4) / 4))
 
--- both at a kind and rate
+-- the same at a kind and rate
 unfoldable pub rowPlace : ℕ → ℕ → ℕ → ℕ
 rowPlace kind rate i = placeOf (layoutOf kind rate) i
 

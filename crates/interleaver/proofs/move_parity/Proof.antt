@@ -8,7 +8,7 @@ use Rattle.interleaver.specs.Rows.{movedRow}
 use Rattle.interleaver.specs.Source.{parityRow, groupOf, isParity}
 use Rattle.interleaver.specs.RowOrder.{rowOf}
 use Rattle.interleaver.specs.Walks.{parityPlace}
-use Rattle.interleaver.proofs.SourceLaws.{group-lt, row-continuous, parity-permutes}
+use Rattle.interleaver.proofs.SourceLaws.{row-continuous, parity-row-lt}
 use Rattle.interleaver.proofs.RowLaws.{row-parity}
 use Rattle.interleaver.proofs.WalkLaws.{continuous-next}
 use Rattle.interleaver.proofs.StreamLaws.{parity-step, parity-due, data-due, parity-group}
@@ -32,7 +32,7 @@ due c =
     let t : isParity l n ≡ true = parity-due l (s .pre .0) n (omega (arith, s .pre .4 .left-is)) in
     let e =
     s .pre .4 .row-is ∙ sym (row-continuous l (parityPlace l n) (s .pre .3)) ∙ ap (parityRow l) (parity-group l (s .pre .0) n t) in
-    (t, e, omega (arith, e, parity-permutes l (s .pre .0) .below (groupOf l n) (group-lt l (s .pre .0) n (s .pre .5))))
+    (t, e, omega (arith, e, parity-row-lt l (s .pre .0) n (s .pre .5)))
 
 returns : tie.Need-returns
 returns c =
