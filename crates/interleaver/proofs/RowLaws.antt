@@ -29,6 +29,10 @@ pub row-parity : (L : Layout) (n : ℕ) → isParity L n ≡ true → rowOf L n 
 unfolding rowOf
 row-parity L n e = rw e
 
+-- place j of rows whose columns were filled one after the other: its number among their bits
+pub filled-lt : (j height : ℕ) → j < height * 4 → j % 4 * height + j / 4 < height * 4
+filled-lt j height h = omega (arith, digits-lt {q = j % 4} {m = 4} {r = j / 4} {c = height} (omega arith) (omega arith))
+
 -- the source bit in column c of a data row, and of a parity row
 at-data : (L : Layout) (r c : ℕ) → c < 4 → r < L .rows → sourceAt L (r * 4 + c) ≡ c * L .rows + r
 unfolding sourceAt
@@ -66,8 +70,8 @@ module _ (L : Layout) (S : Sound L) where
   unfolding sourceAt
   source-at-lt j h =
       lt-cases j (L .rows * 4)
-      (λ l. rw (lt-ltb j (L .rows * 4) l) (omega (arith, digits-lt {q = j % 4} {m = 4} {r = j / 4} {c = L .rows} (omega arith) (omega arith))))
-      (λ l. rw (le-ltb j (L .rows * 4) l) (omega (arith, digits-lt {q = (j - L .rows * 4) % 4} {m = 4} {r = (j - L .rows * 4) / 4} {c = L .parity} (omega arith) (omega arith))))
+      (λ l. rw (lt-ltb j (L .rows * 4) l) (omega (arith, filled-lt j (L .rows) l)))
+      (λ l. rw (le-ltb j (L .rows * 4) l) (omega (arith, filled-lt (j - L .rows * 4) (L .parity) (omega arith))))
 
   -- each place is that of one coded bit
   pub place-permutes : Permutes (codedOf L) (placeOf L)

@@ -1,10 +1,10 @@
 -- `interleaver_vectors::number` meets its contract. The invariant: the length is kept, and j is within the rows. Assumes nothing.
 use mathlib.Core.Path.{_≡_}
-use Prim.Native.Nat.{_+_, _-_, _*_, _/_, _%_, _≤_, _<_}
+use Prim.Native.Nat.{_-_, _*_, _≤_}
 use native.Mathlib.Omega.{arith}
 use borrow.Author.Needs.{needs}
-use lib.Arith.{digits-lt}
 use lib.ListN.{length, length-set}
+use Rattle.interleaver.proofs.RowLaws.{filled-lt}
 use Rattle.interleaver_vectors.proofs.number.Statement.{statement}
 use Rattle.interleaver_vectors.proofs.number.Tie as tie
 
@@ -20,20 +20,14 @@ loop-holds c = search needs
 mul-loop : tie.Need-mul-loop Inv-loop μ-loop
 mul-loop c = search needs
 
--- the number is within those of the rows
-number-lt : (c : tie.In-loop Inv-loop μ-loop)
-    → c .before .loop .j % 4 * c .before .before .args .height + c .before .loop .j / 4 < 4 * c .before .before .args .height
-number-lt c =
-    digits-lt {q = c .before .loop .j % 4} {m = 4} {r = c .before .loop .j / 4} {c = c .before .before .args .height} (omega arith) (omega (arith, c .loop-test .taken))
-
 mul-s : tie.Need-mul-s Inv-loop μ-loop
-mul-s c = omega (arith, number-lt c)
+mul-s c = omega (arith, filled-lt (c .before .loop .j) (c .before .before .args .height) (c .loop-test .taken))
 
 add-s : tie.Need-add-s Inv-loop μ-loop
-add-s c = omega (arith, number-lt c)
+add-s c = omega (arith, filled-lt (c .before .loop .j) (c .before .before .args .height) (c .loop-test .taken))
 
 add-s-2 : tie.Need-add-s-2 Inv-loop μ-loop
-add-s-2 c = omega (arith, number-lt c)
+add-s-2 c = omega (arith, filled-lt (c .before .loop .j) (c .before .before .args .height) (c .loop-test .taken))
 
 div-s : tie.Need-div-s Inv-loop μ-loop
 div-s c = search needs
