@@ -1,5 +1,4 @@
 -- `bits::pack_nibble` meets its contract, by a test at all four bits. Assumes nothing.
-use mathlib.Core.Path.{_≡_}
 use Prim.Native.Nat.{_+_, _*_, _/_, _%_}
 use Rattle.bits.proofs.RangeLaws.{agree₄}
 use borrow.Author.Needs.{needs}

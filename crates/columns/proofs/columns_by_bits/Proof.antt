@@ -3,7 +3,7 @@ use mathlib.Core.Path.{_≡_, ap, _∙_}
 use mathlib.Core.List.{List}
 use Prim.Native.Nat.{ℕ, _*_, _/_, _<_}
 use native.Mathlib.Omega.{arith}
-use lib.ListN.{length, getD}
+use lib.ListN.{getD}
 use Rattle.bits.proofs.ListLaws.{getD-written}
 use Rattle.columns.specs.Columns.{unrowed}
 use Rattle.columns.proofs.ColumnLaws.{unrowed-lt, bytes-of}

@@ -1,6 +1,6 @@
 -- `columns::take_rows` meets its contract. The invariant: each byte is packed from the first j rows. Assumes nothing.
 use mathlib.Core.Path.{_≡_, ap, _∙_}
-use Prim.Native.Nat.{ℕ, _+_, _-_, _*_, _≤_, _<_}
+use Prim.Native.Nat.{ℕ, _+_, _-_, _≤_, _<_}
 use native.Mathlib.Omega.{arith}
 use Rattle.bits.specs.Bits.{pack}
 use Rattle.words.specs.Words.{wordByte}
