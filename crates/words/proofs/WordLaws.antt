@@ -19,7 +19,7 @@ unfolding wordByte
 low-byte w e = omega arith
 
 -- the word of four bytes, the lowest first
-abbrev joined : ℕ → ℕ → ℕ → ℕ → ℕ
+abbrev pub joined : ℕ → ℕ → ℕ → ℕ → ℕ
 joined a b c d = a + b * 256 + c * 65536 + d * 16777216
 
 pub joined-byte : (f : ℕ → ℕ) (a b c d : ℕ) → a < 256 → b < 256 → c < 256 → d < 256 → a ≡ f 0 → b ≡ f 1 → c ≡ f 2 → d ≡ f 3
@@ -67,7 +67,7 @@ module _ (w : ℕ) (hw : w < 4294967296) where
   unfolding wordByte
   byte-lt k = omega arith
 
-  whole : w ≡ joined (wordByte w 0) (wordByte w 1) (wordByte w 2) (wordByte w 3)
+  pub whole : w ≡ joined (wordByte w 0) (wordByte w 1) (wordByte w 2) (wordByte w 3)
   unfolding wordByte
   whole =
       from-digits w (w / 256) (w / 65536) (w / 1 % 256) (w / 256 % 256) (w / 65536 % 256) (w / 16777216 % 256)
