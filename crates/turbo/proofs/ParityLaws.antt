@@ -6,10 +6,10 @@ use Prim.Native.Nat.{ℕ, zero, suc, _+_, _-_, _*_, _/_, _%_, _^_, _≤_, _<_}
 use native.Mathlib.Omega.{arith}
 use lib.Dec.{eqb}
 use lib.ListN.{length, getD}
-use Rattle.bits.specs.Bits.{bitOf, pack, byteOf, bytesOf}
+use Rattle.bits.specs.Bits.{bitOf, pack, byteOf}
 use Rattle.bits.specs.Lists.{written}
-use Rattle.bits.proofs.ListLaws.{getD-tabulate, length-written, getD-written, written-ext}
-use Rattle.bits.proofs.BitLaws.{pack-ext, bits-bytes}
+use Rattle.bits.proofs.ListLaws.{length-written, getD-written}
+use Rattle.bits.proofs.BitLaws.{bytes-ext, written-bits}
 use Rattle.card.specs.Modes.{blockBytes}
 use Rattle.constituent.specs.Pairs.{pairCount, pairAt, fourFrom}
 use Rattle.constituent.specs.Encoder.{parityAt}
@@ -76,12 +76,6 @@ pub blocks : (kind : ℕ) (bytes second : List ℕ) → Inputs kind bytes second
 blocks kind bytes second I = record { defined = I .defined; whole = I .whole; room = I .room }
 
 -- ---- what puncturing gives
-
--- bytes of the same bits
-bytes-ext : (n : ℕ) (f g : ℕ → ℕ) → ((i : ℕ) → i < 8 * n → f i ≡ g i) → (out : List ℕ) → written n (byteOf f) out ≡ written n (byteOf g) out
-unfolding byteOf
-bytes-ext n f g e out =
-    written-ext n (byteOf f) (byteOf g) out (λ k h. pack-ext 8 (λ j. f (8 * k + j)) (λ j. g (8 * k + j)) (λ j l. e (8 * k + j) (omega arith)))
 
 punctured-ext : (kind rate : ℕ) (f g : ℕ → ℕ) → ((i : ℕ) → i < 8 * blockBytes kind → f i ≡ g i) → (i : ℕ) → i < keptCount kind rate
     → punctured kind rate f i ≡ punctured kind rate g i
@@ -165,13 +159,8 @@ module _ (kind rate taps : ℕ) (bytes second : List ℕ) (I : Inputs kind bytes
 
   -- the bits of the packed bytes are the parity bits again
   packed-bits : (was packed : List ℕ) → packed ≡ written (blockBytes kind) (byteOf both) was → (i : ℕ) → i < 8 * blockBytes kind → bitOf packed i ≡ both i
-  unfolding bitOf bytesOf
   packed-bits was packed e i h =
-      ap (λ (m : ℕ). m / 2 ^ (7 - i % 8) % 2)
-      (ap (λ (l : List ℕ). getD l (i / 8) 0) e
-      ∙ getD-written (blockBytes kind) (byteOf both) was (i / 8) 0 (omega arith)
-      ∙ sym (getD-tabulate (blockBytes kind) (byteOf both) (i / 8) 0 (omega arith)))
-      ∙ bits-bytes (blockBytes kind) both (λ j l. turn-lt kind taps (pairAt (bitOf bytes)) (pairAt (bitOf second)) j) i h
+      written-bits (blockBytes kind) both was packed (λ j l. turn-lt kind taps (pairAt (bitOf bytes)) (pairAt (bitOf second)) j) e i h
 
   -- and what is kept of them
   pub kept-some-bytes : (was packed out last : List ℕ) → packed ≡ written (blockBytes kind) (byteOf both) was
