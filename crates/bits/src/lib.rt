@@ -187,22 +187,23 @@ pub fn pack(bits: &[u8], count: usize, out: &mut [u8])
 }
 
 // How many bits of two bytes differ.
-fn differing(x: u8, y: u8) -> usize
+fn differing(x: u8, y: u8) -> u16
     ensures { λ r. ⌜ r ≡ count 8 (λ j. not (eqb (bitAt (7 - j) x) (bitAt (7 - j) y))) ⌝ }
 {
-    u8::count_ones(x ^ y) as usize
+    u8::count_ones(x ^ y) as u16
 }
 
-// How many bits of two lists of as many bytes differ.
+// How many bits of two lists of as many bytes differ. Eight times 8,191 fits in a u16, and the narrower the count, the more bytes
+// the compiler takes at a time.
 pub fn disagreements(a: &[u8], b: &[u8]) -> usize
-    requires { ⌜ (length (now a) ≡ length (now b)) × (length (now a) < 65536) ⌝ }
+    requires { ⌜ (length (now a) ≡ length (now b)) × (length (now a) < 8192) ⌝ }
     ensures { λ r. ⌜ r ≡ count (8 * length (now (a .entry))) (λ i. not (eqb (bitOf (now (a .entry)) i) (bitOf (now (b .entry)) i))) ⌝ }
 {
-    let mut n: usize = 0;
+    let mut n: u16 = 0;
     let mut i: usize = 0;
     while i < a.len() {
         n += differing(a[i], b[i]);
         i += 1;
     }
-    n
+    n as usize
 }

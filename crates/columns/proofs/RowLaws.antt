@@ -1,4 +1,4 @@
--- From columns to rows: the rows of a word's bytes, rows stored one after the other, and the elements of the rows. Assumes nothing.
+-- From columns to rows: the tallest columns, the rows of a word's bytes, rows stored one after the other, and the elements of the rows. Assumes nothing.
 use mathlib.Core.Path.{_≡_, refl, sym, ap, _∙_}
 use mathlib.Core.List.{List}
 use Prim.Native.Nat.{ℕ, zero, suc, _+_, _-_, _*_, _/_, _%_, _^_, _≤_, _<_}
@@ -8,13 +8,22 @@ use lib.Bits.{bitAnd, and-shr, and-mod, and-mask}
 use lib.Dec.{lit<}
 use lib.ListN.{length, getD}
 use lib.Pow.{shr-shr, field, mod-mod-pow}
+use borrow.Author.Tests.{eq-eqb, ne-eqb}
 use Rattle.bits.specs.Lists.{written}
 use Rattle.bits.specs.Bits.{bitAt, bitOf}
 use Rattle.bits.proofs.ListLaws.{written-next}
 use Rattle.bits.proofs.BitLaws.{byte-bit}
 use Rattle.words.specs.Words.{wordByte, stored}
 use Rattle.words.proofs.WordLaws.{below-four}
-use Rattle.columns.specs.Columns.{rowed}
+use Rattle.columns.specs.Columns.{rowed, tallest}
+
+-- ---- the tallest columns
+
+pub in-bytes : (h : ℕ) → h % 8 ≡ 0 → h ≤ tallest h → h ≤ 1040
+in-bytes h e l = rw (eq-eqb (h % 8) 0 e) at l
+
+pub not-in-bytes : (h : ℕ) → (h % 8 ≡ 0 → ⊥) → h ≤ tallest h → h ≤ 130
+not-in-bytes h n l = rw (ne-eqb (h % 8) 0 n) at l
 
 -- ---- one bit of each byte of a word
 

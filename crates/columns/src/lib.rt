@@ -8,7 +8,7 @@ ghost use lib.ListN.{length, getD};
 ghost use Rattle.bits.specs.Lists.{written};
 ghost use Rattle.bits.specs.Bits.{bitAt, bitOf, pack, byteOf};
 ghost use Rattle.words.specs.Words.{wordByte};
-ghost use Rattle.columns.specs.Columns.{rowed, unrowed};
+ghost use Rattle.columns.specs.Columns.{rowed, unrowed, tallest};
 
 // Row j of eight whose columns are the bytes of a word: one bit of each byte.
 fn row(word: u32, j: usize) -> u32
@@ -45,7 +45,7 @@ fn rows_by_words(height: usize, bytes: &[u8], out: &mut [u8])
 
 // The rows of columns of bits, one an element, row by row.
 fn put_elements(height: usize, bits: &[u8], out: &mut [u8])
-    requires { ⌜ (height ≤ 1040) × (4 * height ≤ length (now bits)) × (4 * height ≤ length (now out)) ⌝ }
+    requires { ⌜ (height ≤ 130) × (4 * height ≤ length (now bits)) × (4 * height ≤ length (now out)) ⌝ }
     ensures { λ _. ⌜ now (out .exit) ≡ written (4 * height) (rowed height (λ k. getD (now (bits .entry)) k 0)) (now (out .entry)) ⌝ }
 {
     let mut r: usize = 0;
@@ -55,19 +55,20 @@ fn put_elements(height: usize, bits: &[u8], out: &mut [u8])
     }
 }
 
-// The rows of columns whose height is not in bytes.
+// The rows of columns whose height is not in bytes. Such columns are short, and so is the array: a longer one takes longer to clear
+// than the work takes.
 fn rows_by_bits(height: usize, bytes: &[u8], out: &mut [u8])
-    requires { ⌜ (2 * length (now bytes) ≡ height) × (height ≤ 1040) × (4 * height ≤ length (now out)) ⌝ }
+    requires { ⌜ (2 * length (now bytes) ≡ height) × (height ≤ 130) × (4 * height ≤ length (now out)) ⌝ }
     ensures { λ _. ⌜ now (out .exit) ≡ written (4 * height) (rowed height (bitOf (now (bytes .entry)))) (now (out .entry)) ⌝ }
 {
-    let mut all = [0u8; 4160];
+    let mut all = [0u8; 520];
     bits::unpack(bytes, &mut all);
     put_elements(height, &all, out);
 }
 
 // The rows of four columns of `height` bits each, which some bytes fill column by column, at the start of `out`.
 pub fn to_rows(height: usize, bytes: &[u8], out: &mut [u8])
-    requires { ⌜ (2 * length (now bytes) ≡ height) × (0 < height) × (height ≤ 1040) × (4 * height ≤ length (now out)) ⌝ }
+    requires { ⌜ (2 * length (now bytes) ≡ height) × (0 < height) × (height ≤ tallest height) × (4 * height ≤ length (now out)) ⌝ }
     ensures { λ _. ⌜ now (out .exit) ≡ written (4 * height) (rowed height (bitOf (now (bytes .entry)))) (now (out .entry)) ⌝ }
 {
     if height % 8 == 0 {
@@ -114,7 +115,7 @@ fn columns_by_words(height: usize, rows: &[u8], out: &mut [u8])
 
 // The columns of some rows, one bit an element, row by row.
 fn take_elements(height: usize, rows: &[u8], out: &mut [u8])
-    requires { ⌜ (height ≤ 1040) × (length (now rows) ≡ 4 * height) × (4 * height ≤ length (now out)) ⌝ }
+    requires { ⌜ (height ≤ 130) × (length (now rows) ≡ 4 * height) × (4 * height ≤ length (now out)) ⌝ }
     ensures { λ _. ⌜ now (out .exit) ≡ written (4 * height) (unrowed height (λ j. getD (now (rows .entry)) j 0)) (now (out .entry)) ⌝ }
 {
     let mut r: usize = 0;
@@ -124,20 +125,20 @@ fn take_elements(height: usize, rows: &[u8], out: &mut [u8])
     }
 }
 
-// The bytes of columns whose height is not in bytes.
+// The bytes of columns whose height is not in bytes, by a short array too.
 fn columns_by_bits(height: usize, rows: &[u8], out: &mut [u8])
-    requires { ⌜ (2 * (height / 2) ≡ height) × (height ≤ 1040) × (length (now rows) ≡ 4 * height) × (height / 2 ≤ length (now out)) ⌝ }
+    requires { ⌜ (2 * (height / 2) ≡ height) × (height ≤ 130) × (length (now rows) ≡ 4 * height) × (height / 2 ≤ length (now out)) ⌝ }
     requires { ⌜ ((j : ℕ) → j < 4 * height → getD (now rows) j 0 < 2) ⌝ }
     ensures { λ _. ⌜ now (out .exit) ≡ written (height / 2) (byteOf (unrowed height (λ j. getD (now (rows .entry)) j 0))) (now (out .entry)) ⌝ }
 {
-    let mut all = [0u8; 4160];
+    let mut all = [0u8; 520];
     take_elements(height, rows, &mut all);
     bits::pack(&all, height / 2, out);
 }
 
 // The bytes that fill four columns of `height` bits each, column by column, from the columns' rows, at the start of `out`.
 pub fn from_rows(height: usize, rows: &[u8], out: &mut [u8])
-    requires { ⌜ (2 * (height / 2) ≡ height) × (0 < height) × (height ≤ 1040) × (length (now rows) ≡ 4 * height) × (height / 2 ≤ length (now out)) × ((j : ℕ) → j < 4 * height → getD (now rows) j 0 < 2) ⌝ }
+    requires { ⌜ (2 * (height / 2) ≡ height) × (0 < height) × (height ≤ tallest height) × (length (now rows) ≡ 4 * height) × (height / 2 ≤ length (now out)) × ((j : ℕ) → j < 4 * height → getD (now rows) j 0 < 2) ⌝ }
     ensures { λ _. ⌜ now (out .exit) ≡ written (height / 2) (byteOf (unrowed height (λ j. getD (now (rows .entry)) j 0))) (now (out .entry)) ⌝ }
 {
     if height % 8 == 0 {

@@ -54,6 +54,12 @@ loop-less c = search needs
 loop-again : tie.Need-loop-again Inv-loop μ-loop
 loop-again c = (search needs, turn c)
 
+cast-result : tie.Need-cast-result Inv-loop μ-loop
+cast-result c =
+    let a = c .before .before .before .before .args in
+    let i : ℕ = c .before .loop .i in
+    omega (arith, count-le (8 * i) (unlike (a .a .now) (a .b .now)))
+
 returns : tie.Need-returns Inv-loop μ-loop
 returns c =
     let a = c .before .before .before .before .args in
@@ -74,4 +80,5 @@ disagreements-spec =
     add-i
     loop-less
     loop-again
+    cast-result
     returns)

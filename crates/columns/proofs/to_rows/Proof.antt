@@ -1,16 +1,20 @@
 -- `columns::to_rows` meets its contract. Assumes nothing.
 use mathlib.Core.Path.{_≡_, ap₂, _∙_}
-use Prim.Native.Nat.{ℕ, _*_, _/_}
+use Prim.Native.Nat.{ℕ, _*_, _/_, _≤_}
 use native.Mathlib.Omega.{arith}
 use Rattle.bits.specs.Lists.{written}
 use Rattle.bits.specs.Bits.{bitOf}
 use Rattle.columns.specs.Columns.{rowed}
+use Rattle.columns.proofs.RowLaws.{in-bytes, not-in-bytes}
 use borrow.Author.Needs.{needs}
 use Rattle.columns.proofs.to_rows.Statement.{statement}
 use Rattle.columns.proofs.to_rows.Tie as tie
 
 rows-by-words-requires : tie.Need-rows-by-words-requires
-rows-by-words-requires c κs = search needs
+rows-by-words-requires c κs =
+    let z = c .before .before .before .before in
+    let h : z .args .height ≤ 1040 = in-bytes (z .args .height) (omega arith) (z .pre .2) in
+    search needs
 
 same-length : tie.Need-same-length
 same-length c = search needs
@@ -23,7 +27,10 @@ returns c =
     c .before .before .rows-by-words .ensures ∙ ap₂ (λ (m k : ℕ). written m (rowed k (bitOf (a .bytes .now))) (a .out .now)) n h
 
 rows-by-bits-requires : tie.Need-rows-by-bits-requires
-rows-by-bits-requires c κs = search needs
+rows-by-bits-requires c κs =
+    let z = c .before .before .before .before in
+    let h : z .args .height ≤ 130 = not-in-bytes (z .args .height) (λ e. omega arith) (z .pre .2) in
+    search needs
 
 same-length-2 : tie.Need-same-length-2
 same-length-2 c = search needs
