@@ -2,3 +2,4 @@
 pub mod CodingLaws
 pub mod RecoveryLaws
 pub mod RowLaws
+pub mod PartLaws

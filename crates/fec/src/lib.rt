@@ -50,21 +50,14 @@ fn source_rows(
 }
 
 // The coded bits of a block, at the start of `out`, by way of the rows of its source bits.
-fn encode_by(
-    kind: usize,
-    rate: usize,
-    taps: u16,
-    bytes: &[u8],
-    parity: &mut [u8],
-    rows: &mut [u8],
-    out: &mut [u8],
-)
+fn encode_by(kind: usize, rate: usize, taps: u16, bytes: &[u8], rows: &mut [u8], out: &mut [u8])
     requires { ⌜ (Defined kind rate) × (length (now bytes) ≡ blockBytes kind) ⌝ }
-    requires { ⌜ (keptCount kind rate / 8 ≤ length (now parity)) × (codedBits kind rate ≤ length (now rows)) × (codedBits kind rate ≤ length (now out)) ⌝ }
+    requires { ⌜ (codedBits kind rate ≤ length (now rows)) × (codedBits kind rate ≤ length (now out)) ⌝ }
     ensures { λ _. ⌜ now (out .exit) ≡ written (codedBits kind rate)
         (codedBit kind rate taps (bitOf (now (bytes .entry)))) (now (out .entry)) ⌝ }
 {
-    source_rows(kind, rate, taps, bytes, parity, rows);
+    let mut parity = [0u8; 520];
+    source_rows(kind, rate, taps, bytes, &mut parity, rows);
     let coded = interleaver::coded_bits(kind, rate);
     interleaver::interleave(kind, rate, &rows[..coded], out);
 }
@@ -76,20 +69,17 @@ pub fn encode(kind: usize, rate: usize, taps: u16, bytes: &[u8], out: &mut [u8])
     ensures { λ _. ⌜ now (out .exit) ≡ written (codedBits kind rate) (codedBit kind rate taps (bitOf (now (bytes .entry)))) (now (out .entry)) ⌝ }
 {
     if kind == 0 {
-        let mut parity = [0u8; 16];
         let mut rows = [0u8; 256];
-        encode_by(kind, rate, taps, bytes, &mut parity, &mut rows, out);
+        encode_by(kind, rate, taps, bytes, &mut rows, out);
         return;
     }
     if kind < 3 {
-        let mut parity = [0u8; 136];
         let mut rows = [0u8; 2176];
-        encode_by(kind, rate, taps, bytes, &mut parity, &mut rows, out);
+        encode_by(kind, rate, taps, bytes, &mut rows, out);
         return;
     }
-    let mut parity = [0u8; 520];
     let mut rows = [0u8; 8320];
-    encode_by(kind, rate, taps, bytes, &mut parity, &mut rows, out);
+    encode_by(kind, rate, taps, bytes, &mut rows, out);
 }
 
 // The bytes of the data bits and those of the kept parity bits of a block's coded bits, all of them decided, at the start of `block` and of
@@ -141,30 +131,36 @@ fn parity_errors(
     bits::disagreements(&again[..kept], parity)
 }
 
-// The bytes of a block from its coded bits, all of them decided, at the start of `out`, or refusal 8. Nothing is written to `out` before
-// the check has passed; the other buffers are room for what is made on the way.
+// The bytes of a block from its coded bits, all of them decided, at the start of `out`, or refusal 8, by way of the rows of its source
+// bits. Nothing is written to `out` before the check has passed.
 fn recover_by(
     kind: usize,
     rate: usize,
     taps: u16,
     decided: &[u8],
     rows: &mut [u8],
-    block: &mut [u8],
-    parity: &mut [u8],
-    again: &mut [u8],
     out: &mut [u8],
 ) -> Answer
     requires { ⌜ (Defined kind rate) × (length (now decided) ≡ codedBits kind rate)
-        × (length (now decided) ≤ firstAbove 1 (now decided)) × (blockBytes kind ≤ length (now out)) ⌝ }
-    requires { ⌜ (codedBits kind rate ≤ length (now rows)) × (blockBytes kind ≤ length (now block)) × (keptCount kind rate / 8 ≤ length (now parity))
-        × (keptCount kind rate / 8 ≤ length (now again)) ⌝ }
+        × (length (now decided) ≤ firstAbove 1 (now decided)) ⌝ }
+    requires { ⌜ (codedBits kind rate ≤ length (now rows)) × (blockBytes kind ≤ length (now out)) ⌝ }
     ensures answer { λ r. ⌜ answer r ≡ recovered kind rate taps (λ i. getD (now (decided .entry)) i 0) (now (out .entry)) .report ⌝ }
     ensures bytes { λ _. ⌜ now (out .exit) ≡ recovered kind rate taps (λ i. getD (now (decided .entry)) i 0) (now (out .entry)) .out ⌝ }
 {
     let size = card::block_bytes(kind);
     let kept = turbo::kept_count(kind, rate) / 8;
-    take_apart(kind, rate, decided, rows, block, parity);
-    let errors = parity_errors(kind, rate, taps, &block[..size], &parity[..kept], again);
+    let mut block = [0u8; 520];
+    let mut parity = [0u8; 520];
+    let mut again = [0u8; 520];
+    take_apart(kind, rate, decided, rows, &mut block, &mut parity);
+    let errors = parity_errors(
+        kind,
+        rate,
+        taps,
+        &block[..size],
+        &parity[..kept],
+        &mut again,
+    );
     if 0 < errors {
         return Answer::Refused(Refusal::Parity(errors));
     }
@@ -185,34 +181,12 @@ pub fn recover(kind: usize, rate: usize, taps: u16, decided: &[u8], out: &mut [u
     }
     if kind == 0 {
         let mut rows = [0u8; 256];
-        let mut block = [0u8; 16];
-        let mut parity = [0u8; 16];
-        let mut again = [0u8; 16];
-        return recover_by(
-            kind,
-            rate,
-            taps,
-            decided,
-            &mut rows,
-            &mut block,
-            &mut parity,
-            &mut again,
-            out,
-        );
+        return recover_by(kind, rate, taps, decided, &mut rows, out);
+    }
+    if kind < 3 {
+        let mut rows = [0u8; 2176];
+        return recover_by(kind, rate, taps, decided, &mut rows, out);
     }
     let mut rows = [0u8; 8320];
-    let mut block = [0u8; 520];
-    let mut parity = [0u8; 520];
-    let mut again = [0u8; 520];
-    recover_by(
-        kind,
-        rate,
-        taps,
-        decided,
-        &mut rows,
-        &mut block,
-        &mut parity,
-        &mut again,
-        out,
-    )
+    recover_by(kind, rate, taps, decided, &mut rows, out)
 }
