@@ -10,9 +10,9 @@ use lib.Arith.{bin-ind, digits-div, digits-mod}
 use lib.Bits.{bitXor, differ, xor-step, xor-self, xor-block}
 use lib.ListN.{length, getD}
 use lib.Pow.{shr-shr, mod-pow-add}
-use Rattle.bits.specs.Lists.{tabulate}
+use Rattle.bits.specs.Lists.{tabulate, written}
 use Rattle.bits.specs.Bits.{bitAt, bitOf, nibble, pack, byteOf, field, bytesOf}
-use Rattle.bits.proofs.ListLaws.{length-tabulate, getD-tabulate, tabulate-of, tabulate-ext}
+use Rattle.bits.proofs.ListLaws.{length-tabulate, getD-tabulate, getD-written, tabulate-of, tabulate-ext, written-ext}
 use Rattle.bits.proofs.RangeLaws.{agree₂, under₂}
 
 -- each of the bits d is 0 or 1
@@ -181,6 +181,20 @@ unfolding bytesOf byteOf
 same-bits n d e h = tabulate-ext n _ _ (λ k l. pack-ext 8 _ _ (λ j b. h (8 * k + j) (omega arith)))
 
 -- ---- fields of some bytes
+
+-- bytes of the same bits, written
+pub bytes-ext : (n : ℕ) (d e : ℕ → ℕ) → ((i : ℕ) → i < 8 * n → d i ≡ e i) → (out : List ℕ) → written n (byteOf d) out ≡ written n (byteOf e) out
+unfolding byteOf
+bytes-ext n d e h out =
+    written-ext n (byteOf d) (byteOf e) out (λ k l. pack-ext 8 (λ j. d (8 * k + j)) (λ j. e (8 * k + j)) (λ j m. h (8 * k + j) (omega arith)))
+
+-- the bits of bytes that were written
+pub written-bits : (n : ℕ) (d : ℕ → ℕ) (was bytes : List ℕ) → Binary (8 * n) d → bytes ≡ written n (byteOf d) was → (i : ℕ) → i < 8 * n → bitOf bytes i ≡ d i
+unfolding bitOf bytesOf
+written-bits n d was bytes b e i h =
+    ap (λ (m : ℕ). bitAt (7 - i % 8) m)
+    (ap (λ (l : List ℕ). getD l (i / 8) 0) e ∙ getD-written n (byteOf d) was (i / 8) 0 (omega arith) ∙ sym (getD-tabulate n (byteOf d) (i / 8) 0 (omega arith)))
+    ∙ bits-bytes n d b i h
 
 pub field-append : (bytes : List ℕ) (at n m : ℕ) → field bytes at (n + m) ≡ field bytes at n * 2 ^ m + field bytes (at + n) m
 unfolding field

@@ -4,5 +4,6 @@ pub mod NumberLaws
 pub mod ListLaws
 pub mod BitLaws
 pub mod SumLaws
+pub mod DifferLaws
 pub mod PermutationLaws
 pub mod RangeLaws

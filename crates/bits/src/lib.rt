@@ -2,11 +2,15 @@
 //
 // Internal: nothing here is a public entry. A function with a `requires` is called only where its caller has shown it.
 ghost use mathlib.Core.Path.{_≡_};
+ghost use mathlib.Core.Bool.{not};
 ghost use mathlib.Core.List.{_++_};
-ghost use Prim.Native.Nat.{_-_, _*_, _/_, _%_, _^_, _<_, _≤_};
+ghost use Prim.Native.Nat.{ℕ, _+_, _-_, _*_, _/_, _%_, _^_, _<_, _≤_};
+ghost use lib.Bits.{bitXor};
+ghost use lib.Dec.{eqb};
 ghost use lib.ListN.{length, getD, drop};
 ghost use Rattle.bits.specs.Lists.{tabulate, written, larger as largerOf, largest, firstAbove};
-ghost use Rattle.bits.specs.Bits.{bitAt, bitOf, nibble};
+ghost use Rattle.bits.specs.Bits.{bitAt, bitOf, nibble, byteOf};
+ghost use Rattle.bits.specs.Sums.{count};
 
 // The larger of two numbers.
 fn larger(a: u8, b: u8) -> u8
@@ -61,6 +65,19 @@ pub fn put(src: &[u8], out: &mut [u8])
     let mut i: usize = 0;
     while i < src.len() {
         out[i] = src[i];
+        i += 1;
+    }
+}
+
+// The exclusive-or of each byte with what stands at its place in `out`.
+pub fn add_bytes(bytes: &[u8], out: &mut [u8])
+    requires { ⌜ length (now bytes) ≤ length (now out) ⌝ }
+    ensures { λ _. ⌜ now (out .exit) ≡ written (length (now (bytes .entry)))
+        (λ k. bitXor (getD (now (bytes .entry)) k 0) (getD (now (out .entry)) k 0)) (now (out .entry)) ⌝ }
+{
+    let mut i: usize = 0;
+    while i < bytes.len() {
+        out[i] = bytes[i] ^ out[i];
         i += 1;
     }
 }
@@ -133,4 +150,60 @@ pub fn unpack(bytes: &[u8], out: &mut [u8])
         put_bits(&words, bytes[k], &mut out[at..]);
         k += 1;
     }
+}
+
+// Four bits as a number, the first the most significant. In the word they stand a byte apart, as in memory, so that one read
+// fetches them; the product brings them side by side.
+fn pack_nibble(a: u8, b: u8, c: u8, d: u8) -> u8
+    requires { ⌜ (a < 2) × (b < 2) × (c < 2) × (d < 2) ⌝ }
+    ensures { λ r. ⌜ r ≡ a * 8 + b * 4 + c * 2 + d ⌝ }
+{
+    let word = a as u64 + b as u64 * 256 + c as u64 * 65536 + d as u64 * 16777216;
+    (word * 134480385 / 16777216 % 16) as u8
+}
+
+// Byte k of some bits, most significant first, one an element.
+fn pack_byte(bits: &[u8], k: usize) -> u8
+    requires { ⌜ (k < 65536) × (8 * k + 8 ≤ length (now bits)) × ((j : ℕ) → j < 8 → getD (now bits) (8 * k + j) 0 < 2) ⌝ }
+    ensures { λ r. ⌜ r ≡ byteOf (λ i. getD (now (bits .entry)) i 0) k ⌝ }
+{
+    let i = 8 * k;
+    let high = pack_nibble(bits[i], bits[i + 1], bits[i + 2], bits[i + 3]);
+    let low = pack_nibble(bits[i + 4], bits[i + 5], bits[i + 6], bits[i + 7]);
+    high * 16 + low
+}
+
+// The first `count` bytes of some bits, one an element, at the start of `out`.
+pub fn pack(bits: &[u8], count: usize, out: &mut [u8])
+    requires { ⌜ (count < 65536) × (8 * count ≤ length (now bits)) × (count ≤ length (now out)) ⌝ }
+    requires { ⌜ ((i : ℕ) → i < 8 * count → getD (now bits) i 0 < 2) ⌝ }
+    ensures { λ _. ⌜ now (out .exit) ≡ written count (byteOf (λ i. getD (now (bits .entry)) i 0)) (now (out .entry)) ⌝ }
+{
+    let mut k: usize = 0;
+    while k < count {
+        out[k] = pack_byte(bits, k);
+        k += 1;
+    }
+}
+
+// How many bits of two bytes differ.
+fn differing(x: u8, y: u8) -> u16
+    ensures { λ r. ⌜ r ≡ count 8 (λ j. not (eqb (bitAt (7 - j) x) (bitAt (7 - j) y))) ⌝ }
+{
+    u8::count_ones(x ^ y) as u16
+}
+
+// How many bits of two lists of as many bytes differ. Eight times 8,191 fits in a u16, and the narrower the count, the more bytes
+// the compiler takes at a time.
+pub fn disagreements(a: &[u8], b: &[u8]) -> usize
+    requires { ⌜ (length (now a) ≡ length (now b)) × (length (now a) < 8192) ⌝ }
+    ensures { λ r. ⌜ r ≡ count (8 * length (now (a .entry))) (λ i. not (eqb (bitOf (now (a .entry)) i) (bitOf (now (b .entry)) i))) ⌝ }
+{
+    let mut n: u16 = 0;
+    let mut i: usize = 0;
+    while i < a.len() {
+        n += differing(a[i], b[i]);
+        i += 1;
+    }
+    n as usize
 }

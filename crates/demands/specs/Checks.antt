@@ -10,8 +10,8 @@ use Rattle.card.specs.declared.Card.{Card}
 use Rattle.card.specs.Card.{fieldsOf, cardOf}
 use Rattle.card.specs.Entries.{definedMode, readCard}
 use Rattle.scrambler.specs.Scrambler.{feedback, shifted, afterShifts, scramblerBit, allOnes}
-use Rattle.turbo.specs.Encoder.{plus, startOf}
-use Rattle.turbo.specs.Interleave.{placeBy, place}
+use Rattle.constituent.specs.Encoder.{plus, startOf}
+use Rattle.pair_interleaver.specs.Interleave.{placeBy, place}
 use Rattle.interleaver.specs.Source.{column}
 use Rattle.diversity.specs.Bands.{offsets, carriers, carrierCount, itemCount}
 use Rattle.diversity.specs.Lanes.{laneBit, rides, laneOf}

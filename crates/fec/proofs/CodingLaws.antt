@@ -9,12 +9,12 @@ use Rattle.bits.proofs.NumberLaws.{lt-cases}
 use Rattle.bits.proofs.BitLaws.{Binary}
 use Rattle.bits.proofs.RangeLaws.{agree₂, under}
 use Rattle.card.specs.Modes.{blockBytes}
-use Rattle.turbo.specs.Pairs.{pairCount}
+use Rattle.constituent.specs.Pairs.{pairCount}
 use Rattle.turbo.specs.Puncture.{row, keptCount}
 use Rattle.turbo.specs.Parity.{keptBit}
 use Rattle.turbo.proofs.ParityLaws.{kept-binary, kept-ext}
 use Rattle.turbo.proofs.PunctureLaws.{kept-count, kept-le}
-use Rattle.turbo.proofs.StepLaws.{few-pairs}
+use Rattle.constituent.proofs.PairLaws.{few-pairs}
 use Rattle.interleaver.specs.Layouts.{Defined, groups}
 use Rattle.interleaver.specs.Source.{codedBits, source}
 use Rattle.interleaver.proofs.InterleaverLaws.{source-lt}

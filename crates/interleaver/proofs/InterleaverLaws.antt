@@ -9,13 +9,15 @@ use lib.ListN.{length, getD}
 use Rattle.bits.specs.Lists.{tabulate}
 use Rattle.bits.specs.Permutations.{Permutes, Once}
 use Rattle.bits.proofs.ListLaws.{getD-tabulate, tabulate-of}
-use Rattle.bits.proofs.PermutationLaws.{once, inverse-after, after-inverse, inverse-lt}
+use Rattle.bits.proofs.PermutationLaws.{once, inverse, inverse-after, after-inverse, inverse-lt}
 use Rattle.bits.proofs.RangeLaws.{agree, under₂}
 use Rattle.card.specs.Modes.{blockBytes}
 use Rattle.interleaver.specs.Layouts.{Defined, groups, layoutOf}
 use Rattle.interleaver.specs.Source.{codedBits, source, codedAt}
+use Rattle.interleaver.specs.RowOrder.{rowPlace, rowSource}
 use Rattle.interleaver.proofs.LayoutLaws.{sound-of}
 use Rattle.interleaver.proofs.SourceLaws.{source-permutes}
+use Rattle.interleaver.proofs.RowLaws.{source-at-place, source-at-lt, place-permutes}
 
 -- the defined kinds and rates
 pub defined-half : (kind : ℕ) → kind < 5 → Defined kind 0
@@ -62,6 +64,31 @@ module _ (kind rate : ℕ) (D : Defined kind rate) where
   pub coded-source : (i : ℕ) → i < codedBits kind rate → codedAt kind rate (source kind rate i) ≡ i
   unfolding codedAt
   coded-source = inverse-after (codedBits kind rate) (source kind rate) permutes
+
+  -- the places of the coded bits in the list of rows are a permutation, and each holds its source bit
+  pub row-permutes : Permutes (codedBits kind rate) (rowPlace kind rate)
+  unfolding codedBits rowPlace
+  row-permutes = place-permutes (layoutOf kind rate) (sound-of kind rate D)
+
+  pub row-place-lt : (i : ℕ) → i < codedBits kind rate → rowPlace kind rate i < codedBits kind rate
+  row-place-lt = row-permutes .below
+
+  pub row-source-lt : (j : ℕ) → j < codedBits kind rate → rowSource kind rate j < codedBits kind rate
+  unfolding codedBits rowSource
+  row-source-lt = source-at-lt (layoutOf kind rate) (sound-of kind rate D)
+
+  pub row-source-place : (i : ℕ) → i < codedBits kind rate → rowSource kind rate (rowPlace kind rate i) ≡ source kind rate i
+  unfolding codedBits source rowPlace rowSource
+  row-source-place = source-at-place (layoutOf kind rate) (sound-of kind rate D)
+
+  -- the coded bit at place j of the rows
+  pub row-inverse : (j : ℕ) → j < codedBits kind rate → inverse (codedBits kind rate) (rowPlace kind rate) j ≡ codedAt kind rate (rowSource kind rate j)
+  row-inverse j h =
+      let n = codedBits kind rate in
+      let i = inverse n (rowPlace kind rate) j in
+      let l = inverse-lt n (rowPlace kind rate) row-permutes j h in
+      sym (coded-source i l)
+      ∙ ap (codedAt kind rate) (sym (row-source-place i l) ∙ ap (rowSource kind rate) (after-inverse n (rowPlace kind rate) row-permutes j h))
 
   -- deinterleaving what was interleaved gives the bits back, and the other way round
   pub deinterleave-interleave : (d : ℕ → ℕ) (k : ℕ) → k < codedBits kind rate → d (source kind rate (codedAt kind rate k)) ≡ d k

@@ -14,6 +14,9 @@ use Rattle.interleaver.specs.declared.Layout.{Layout}
 use Rattle.interleaver.specs.Source.{codedOf, codedBits}
 use Rattle.interleaver.specs.Layouts.{Defined, Sound, Small, Near, Paired, offsets, steps, groups, leads, layoutOf}
 
+pub rows-in : (kind : ℕ) → kind < 5 → blockBytes kind * 2 < 65536
+rows-in = under 5 65536 (λ k. blockBytes k * 2) tt
+
 module _ (kind rate : ℕ) (D : Defined kind rate) where
   -- its row of the table
   row-lt : kind + rate < 6
@@ -21,9 +24,6 @@ module _ (kind rate : ℕ) (D : Defined kind rate) where
 
   pub group-in : zero < getD groups rate 0
   group-in = ltb→lt 0 (getD groups rate 0) (at-each 2 (λ r. ltb 0 (getD groups r 0)) tt rate (D .rate-lt))
-
-  pub rows-in : blockBytes kind * 2 < 65536
-  rows-in = under 5 65536 (λ k. blockBytes k * 2) tt kind (D .kind-lt)
 
   pub sound-of : Sound (layoutOf kind rate)
   sound-of =
@@ -38,7 +38,7 @@ module _ (kind rate : ℕ) (D : Defined kind rate) where
   pub small-of : Small (layoutOf kind rate)
   small-of =
       record {
-        rows-lt = rows-in;
+        rows-lt = rows-in kind (D .kind-lt);
         parity-lt = under₂ 5 2 65536 (λ k r. blockBytes k * 2 / getD groups r 0) tt kind rate (D .kind-lt) (D .rate-lt);
         step-lt = under 6 65536 (λ m. getD steps m 0) tt (kind + rate) row-lt;
         offset-lt = under 6 65536 (λ m. getD offsets m 0) tt (kind + rate) row-lt;

@@ -1,71 +1,69 @@
--- Nibbles carried from source bits to coded bits, or back. Assumes nothing.
-use mathlib.Core.Path.{_≡_, refl, sym, ap, ap₂, _∙_}
+-- Nibbles carried from rows to coded bits, or back. Assumes nothing.
+use mathlib.Core.Path.{_≡_, sym, ap, ap₂, _∙_}
 use mathlib.Core.Bool.{Bool, true, false, cond}
 use mathlib.Core.List.{List}
-use Prim.Native.Nat.{ℕ, zero, _+_, _-_, _*_, _/_, _%_, _<_, _≤_}
-use native.Mathlib.Nat.{mul-le-mul-right, mul-div-cancel, add-right-cancel}
+use Prim.Native.Nat.{ℕ, _+_, _-_, _*_, _/_, _%_, _<_, _≤_}
 use native.Mathlib.Omega.{arith}
 use lib.ListN.{length, getD}
 use Rattle.bits.specs.Permutations.{Permutes}
 use Rattle.interleaver.specs.declared.Layout.{Layout}
 use Rattle.interleaver.specs.Layouts.{layoutOf}
-use Rattle.interleaver.specs.Source.{nibbleBit, column, sourceOf, codedOf, codedBits, source}
+use Rattle.interleaver.specs.Source.{column, codedOf, codedBits}
+use Rattle.interleaver.specs.RowOrder.{rowOf, placeOf, rowPlace}
 use Rattle.words.specs.Words.{wordByte, stored}
 use Rattle.interleaver.specs.Stores.{target, origin, carried}
-use Rattle.interleaver.proofs.SourceLaws.{column-apart, column-source}
+use Rattle.interleaver.proofs.SourceLaws.{column-apart}
+use Rattle.interleaver.proofs.RowLaws.{place-nibble}
 use Rattle.words.proofs.StoreLaws.{stored-none, stored-append, stored-ext, stored-reordered}
 
--- the buffer after nibble n, whose source bit of column c is c * height + first, is moved
-abbrev Moved : ℕ → ℕ → ℕ → Bool → List ℕ → List ℕ → List ℕ → Type 0
-Moved n first height back from to now =
-    now ≡ stored 4 (λ b. cond back (column n b * height + first) (n * 4 + b))
-    (λ b. getD from (cond back (n * 4 + b) (column n b * height + first)) 0) to
+-- the buffer after nibble n, whose row starts at `first`, is moved
+abbrev Moved : ℕ → ℕ → Bool → List ℕ → List ℕ → List ℕ → Type 0
+Moved n first back from to now =
+    now ≡ stored 4 (λ b. cond back (first + column n b) (n * 4 + b))
+    (λ b. getD from (cond back (n * 4 + b) (first + column n b)) 0) to
 
 columns-permute : (n : ℕ) → Permutes 4 (column n)
 columns-permute n = record { below = λ b h. omega arith; apart = column-apart n }
 
-module _ (n first height : ℕ) (back : Bool) (from to now : List ℕ) (word x : ℕ) where
-  -- a word read from four columns and turned on the way out
-  pub nibble-out : back ≡ false → ((c : ℕ) → c < 4 → wordByte word c ≡ getD from (c * height + first) 0)
+-- bytes that stand side by side
+side : (b a : ℕ) → b * 1 + a ≡ a + b
+side b a = omega arith
+
+module _ (n first : ℕ) (back : Bool) (from to now : List ℕ) (word x : ℕ) where
+  -- a word read from a row and turned on the way out
+  pub nibble-out : back ≡ false → ((c : ℕ) → c < 4 → wordByte word c ≡ getD from (c * 1 + first) 0)
       → ((b : ℕ) → b < 4 → wordByte x b ≡ wordByte word (column n b))
       → now ≡ stored 4 (λ b. b * 1 + n * 4) (wordByte x) to
-      → Moved n first height back from to now
+      → Moved n first back from to now
   nibble-out way read turned e =
       rw way
       (e
-      ∙ stored-ext 4 _ _ _ _ to (λ b h. let z : b * 1 + n * 4 ≡ n * 4 + b = omega arith in z)
-      (λ b h. turned b h ∙ read (column n b) (omega arith)))
+      ∙ stored-ext 4 _ _ _ _ to (λ b h. side b (n * 4))
+      (λ b h. turned b h ∙ read (column n b) (omega arith) ∙ ap (λ (y : ℕ). getD from y 0) (side (column n b) first)))
 
   -- a word read from the coded bits and turned on the way back
-  pub nibble-back : back ≡ true → zero < height → first + 3 * height < length to
+  pub nibble-back : back ≡ true → first + 4 ≤ length to
       → ((b : ℕ) → b < 4 → wordByte word b ≡ getD from (b * 1 + n * 4) 0)
-      → ((c : ℕ) → c < 4 → wordByte x c ≡ wordByte word ((c + (4 - (4 - n / 2 % 4) % 4)) % 4))
-      → now ≡ stored 4 (λ c. c * height + first) (wordByte x) to
-      → Moved n first height back from to now
-  nibble-back way pos room read turned e =
+      → ((c : ℕ) → c < 4 → wordByte x c ≡ wordByte word ((c + n / 2 % 4) % 4))
+      → now ≡ stored 4 (λ c. c * 1 + first) (wordByte x) to
+      → Moved n first back from to now
+  nibble-back way room read turned e =
       rw way
-      (e ∙ stored-reordered 4 (column n) (λ c. c * height + first) (wordByte x) to (columns-permute n) apart within
-      ∙ stored-ext 4 _ _ _ _ to (λ b h. refl) value)
+      (e ∙ stored-reordered 4 (column n) (λ c. c * 1 + first) (wordByte x) to (columns-permute n) (λ j k hj hk z. omega arith) (λ k h. omega arith)
+      ∙ stored-ext 4 _ _ _ _ to (λ b h. side (column n b) first) value)
     where
-      apart : (j k : ℕ) → j < 4 → k < 4 → j * height + first ≡ k * height + first → j ≡ k
-      apart j k hj hk z = sym (mul-div-cancel j pos) ∙ ap (λ (y : ℕ). y / height) (add-right-cancel first z) ∙ mul-div-cancel k pos
-
-      within : (k : ℕ) → k < 4 → k * height + first < length to
-      within k h = omega (arith, mul-le-mul-right {m = k} {n = 3} height (omega arith))
-
       value : (b : ℕ) → b < 4 → wordByte x (column n b) ≡ getD from (n * 4 + b) 0
       value b h =
-          let i : (column n b + (4 - (4 - n / 2 % 4) % 4)) % 4 ≡ b = omega arith in
-          let j : b * 1 + n * 4 ≡ n * 4 + b = omega arith in
-          turned (column n b) (omega arith) ∙ ap (wordByte word) i ∙ read b h ∙ ap (λ (y : ℕ). getD from y 0) j
+          let i : (column n b + n / 2 % 4) % 4 ≡ b = omega arith in
+          turned (column n b) (omega arith) ∙ ap (wordByte word) i ∙ read b h ∙ ap (λ (y : ℕ). getD from y 0) (side b (n * 4))
 
 module _ (L : Layout) (back : Bool) (from : List ℕ) where
   -- where bit i is stored, and what is stored there
   abbrev place : ℕ → ℕ
-  place i = target back (sourceOf L) i
+  place i = target back (placeOf L) i
 
   abbrev value : ℕ → ℕ
-  value i = getD from (origin back (sourceOf L) i) 0
+  value i = getD from (origin back (placeOf L) i) 0
 
   -- a run of bits, by how many and from which on
   abbrev run : ℕ → ℕ → List ℕ → List ℕ
@@ -91,16 +89,16 @@ module _ (L : Layout) (back : Bool) (from : List ℕ) where
       ∙ sym (stored-append ((m - n) * 4) ((k - m) * 4) (λ i. place (n * 4 + i)) (λ i. value (n * 4 + i)) to)
       ∙ ap (λ (c : ℕ). run c (n * 4) to) count
 
-  -- one nibble, by its columns
-  pub carried-one : (n first height : ℕ) (to now : List ℕ) → ((c : ℕ) → c * height + first ≡ nibbleBit L n c)
-      → Moved n first height back from to now → now ≡ carried L back from n (n + 1) to
+  -- one nibble, by its row
+  pub carried-one : (n row : ℕ) (to now : List ℕ) → row ≡ rowOf L n → Moved n (row * 4) back from to now → now ≡ carried L back from n (n + 1) to
   unfolding carried
-  carried-one n first height to now bits e =
+  carried-one n row to now e m =
       let one : 4 ≡ (n + 1 - n) * 4 = omega arith in
-      e
+      let at : (b : ℕ) → b < 4 → row * 4 + column n b ≡ placeOf L (n * 4 + b) = λ b h. omega (arith, e, place-nibble L n b h) in
+      m
       ∙ stored-ext 4 _ _ (λ i. place (n * 4 + i)) (λ i. value (n * 4 + i)) to
-      (λ b h. ap (λ (y : ℕ). cond back y (n * 4 + b)) (column-source L n b first height bits h))
-      (λ b h. ap (λ (y : ℕ). getD from (cond back (n * 4 + b) y) 0) (column-source L n b first height bits h))
+      (λ b h. ap (λ (y : ℕ). cond back y (n * 4 + b)) (at b h))
+      (λ b h. ap (λ (y : ℕ). getD from (cond back (n * 4 + b) y) 0) (at b h))
       ∙ ap (λ (k : ℕ). run k (n * 4) to) one
 
   pub carried-all : (to now : List ℕ) → now ≡ carried L back from 0 (L .rows + L .parity) to → now ≡ stored (codedOf L) place value to
@@ -114,8 +112,8 @@ module _ (L : Layout) (back : Bool) (from : List ℕ) where
 -- all nibbles of a block of a kind and rate, and the way that they were carried
 pub carried-block : (kind rate : ℕ) (back way : Bool) (from to now : List ℕ) (L : Layout) → L ≡ layoutOf kind rate → back ≡ way
     → now ≡ carried L way from 0 (L .rows + L .parity) to
-    → now ≡ stored (codedBits kind rate) (target back (source kind rate)) (λ i. getD from (origin back (source kind rate) i) 0) to
-unfolding codedBits source
+    → now ≡ stored (codedBits kind rate) (target back (rowPlace kind rate)) (λ i. getD from (origin back (rowPlace kind rate) i) 0) to
+unfolding codedBits rowPlace
 carried-block kind rate back way from to now L e t d =
     carried-all L way from to now d
-    ∙ ap₂ (λ (K : Layout) (b : Bool). stored (codedOf K) (target b (sourceOf K)) (λ i. getD from (origin b (sourceOf K) i) 0) to) e (sym t)
+    ∙ ap₂ (λ (K : Layout) (b : Bool). stored (codedOf K) (target b (placeOf K)) (λ i. getD from (origin b (placeOf K) i) 0) to) e (sym t)

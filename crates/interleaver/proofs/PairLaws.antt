@@ -9,16 +9,17 @@ use borrow.Author.Tests.{le-ltb, eq-eqb, ne-eqb}
 use Rattle.interleaver.specs.declared.Layout.{Layout}
 use Rattle.interleaver.specs.Layouts.{Sound, Paired}
 use Rattle.interleaver.specs.Rows.{passRow, movedRow}
-use Rattle.interleaver.specs.Source.{parityRow, groupOf, placeIn, isParity, dataPlace, nibbleBit}
+use Rattle.interleaver.specs.Source.{parityRow, groupOf, placeIn, isParity, dataPlace}
+use Rattle.interleaver.specs.RowOrder.{rowOf}
 use Rattle.interleaver.specs.Walks.{OnPass}
-use Rattle.interleaver.proofs.SourceLaws.{row-moved, bit-data, bit-parity}
+use Rattle.interleaver.proofs.SourceLaws.{row-moved}
+use Rattle.interleaver.proofs.RowLaws.{row-data, row-parity}
 use Rattle.interleaver.proofs.WalkLaws.{row-at}
 
--- the two nibbles of the pair at place p, whose data row is this: their source bits by column, and that all is within the rows
+-- the two nibbles of the pair at place p, whose data row is this: their rows, and that all is within the rows
 abbrev pub Pair : Layout → ℕ → ℕ → Type 0
 Pair L p row =
-    ((k : ℕ) → k * L .rows + row ≡ nibbleBit L (p * 2) k)
-    × ((first : ℕ) → first ≡ L .rows * 4 + movedRow (L .rows) (L .offset) row → (k : ℕ) → k * L .rows + first ≡ nibbleBit L (p * 2 + 1) k)
+    (row ≡ rowOf L (p * 2)) × (L .rows + movedRow (L .rows) (L .offset) row ≡ rowOf L (p * 2 + 1))
     × (p < L .rows) × (movedRow (L .rows) (L .offset) row < L .rows)
 
 module _ (L : Layout) (S : Sound L) (P : Paired L) where
@@ -43,8 +44,8 @@ module _ (L : Layout) (S : Sound L) (P : Paired L) where
       let moved : parityRow L (groupOf L (p * 2 + 1)) ≡ movedRow (L .rows) (L .offset) row =
       ap (parityRow L) g ∙ row-moved L p (P .in-passes)
       ∙ ap (λ (R : ℕ). movedRow R (L .offset) (passRow R (L .step) p)) parity-is ∙ ap (movedRow (L .rows) (L .offset)) at in (
-        λ k. omega (arith, at, ap (passRow (L .rows) (L .step)) d, bit-data L S (p * 2) k t),
-        λ first e k. omega (arith, e, moved, bit-parity L S (p * 2 + 1) k u, ap (λ (R : ℕ). k * R) parity-is),
+        omega (arith, at, ap (passRow (L .rows) (L .step)) d, row-data L (p * 2) t),
+        omega (arith, moved, row-parity L (p * 2 + 1) u),
         l,
         mod-lt (row + L .offset) (omega arith),
       )

@@ -102,10 +102,10 @@ module _ (L : Layout) (S : Sound L) where
   bit-parity n c e = rw e
 
   module _ (n : ℕ) (h : n < L .rows + L .parity) where
-    data-row-lt : isParity L n ≡ false → dataRow L (dataPlace L n) < L .rows
+    pub data-row-lt : isParity L n ≡ false → dataRow L (dataPlace L n) < L .rows
     data-row-lt e = data-permutes .below (dataPlace L n) (data-place-lt n h e)
 
-    parity-row-lt : parityRow L (groupOf L n) < L .parity
+    pub parity-row-lt : parityRow L (groupOf L n) < L .parity
     parity-row-lt = parity-permutes .below (groupOf L n) (group-lt n h)
 
     -- data bits come before parity bits
@@ -172,13 +172,3 @@ module _ (L : Layout) (S : Sound L) where
             let b = column-apart (i / 4) (i % 4) (j % 4) (omega arith) (omega arith) (c ∙ ap (λ (m : ℕ). column m (j % 4)) (sym n)) in
             whole-apart i j n b;
       }
-
--- the source bits of the coded bits of nibble n
-source-nibble : (L : Layout) (n b : ℕ) → b < 4 → sourceOf L (n * 4 + b) ≡ nibbleBit L n (column n b)
-unfolding sourceOf
-source-nibble L n b h = ap₂ (λ (m k : ℕ). nibbleBit L m (column m k)) (digits-div n h) (digits-mod n h)
-
--- four columns whose bits are those of nibble n: the b-th coded bit of the nibble
-pub column-source : (L : Layout) (n b first height : ℕ) → ((c : ℕ) → c * height + first ≡ nibbleBit L n c) → b < 4
-    → column n b * height + first ≡ sourceOf L (n * 4 + b)
-column-source L n b first height e h = e (column n b) ∙ sym (source-nibble L n b h)

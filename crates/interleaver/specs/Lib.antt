@@ -2,5 +2,6 @@
 pub mod Rows
 pub mod Layouts
 pub mod Source
+pub mod RowOrder
 pub mod Stores
 pub mod Walks

@@ -1,5 +1,5 @@
 // The channel interleaver of source 000, 5.1.5.4 ("Shuffling before the carriers" of paper 01): which source bit, of the data
-// bits and then the kept parity bits, each coded bit is, and a block's bits put into that order and back.
+// bits and then the kept parity bits, each coded bit is, and a block's bits, four to a row, put into that order and back.
 //
 // Internal: nothing here is a public entry. A function with a `requires` is called only where its caller has shown it.
 ghost use mathlib.Core.Path.{_≡_};
@@ -7,9 +7,11 @@ ghost use mathlib.Core.Bool.{true, false, cond};
 ghost use Prim.Native.Nat.{ℕ, _+_, _-_, _*_, _%_, _<_, _≤_, min};
 ghost use lib.ListN.{length, getD};
 ghost use Rattle.bits.specs.Lists.{written};
+ghost use Rattle.card.specs.Modes.{blockBytes};
 ghost use Rattle.interleaver.specs.Rows.{passes, movedRow};
 ghost use Rattle.interleaver.specs.Layouts.{Defined, Sound, Small, Near, Paired, layoutOf};
-ghost use Rattle.interleaver.specs.Source.{isParity, dataPlace, column, codedOf, codedBits, source, codedAt};
+ghost use Rattle.interleaver.specs.Source.{isParity, dataPlace, column, codedOf, codedBits, codedAt};
+ghost use Rattle.interleaver.specs.RowOrder.{rowPlace, rowSource};
 ghost use Rattle.interleaver.specs.Walks.{OnPass, parityPlace, untilParity, Stands, Runs};
 ghost use Rattle.words.specs.Words.{stored};
 ghost use Rattle.interleaver.specs.Stores.{target, origin, carried};
@@ -53,12 +55,20 @@ const GROUPS: [usize; 2] = [1, 8];
 
 const LEADS: [usize; 2] = [1, 3];
 
+// The number of data rows: four bits make a row, so a byte makes two.
+pub fn data_rows(kind: usize) -> usize
+    requires { ⌜ kind < 5 ⌝ }
+    ensures { λ r. ⌜ r ≡ blockBytes kind * 2 ⌝ }
+{
+    card::block_bytes(kind) * 2
+}
+
 // The layout of a kind and rate.
 fn layout_of(kind: usize, rate: usize) -> Layout
     requires { ⌜ Defined kind rate ⌝ }
     ensures { λ r. ⌜ (r ≡ layoutOf kind rate) × (Sound r) × (Small r) × (Near r) × (r .continuous ≡ false → Paired r) ⌝ }
 {
-    let rows = card::block_bytes(kind) * 2;
+    let rows = data_rows(kind);
     let group = GROUPS[rate];
     Layout {
         rows,
@@ -80,19 +90,18 @@ fn moved_row(rows: usize, offset: usize, row: usize) -> usize
     if moved < rows { moved } else { moved - rows }
 }
 
-// The four bits of nibble n, whose source bit of column c is c * height + first, from source bits to coded bits or back.
-fn move_nibble(n: usize, first: usize, height: usize, back: bool, from: &[u8], to: &mut [u8])
-    requires { ⌜ (0 < height) × (n * 4 + 4 ≤ length (now from)) × (n * 4 + 4 ≤ length (now to))
-        × (first + 3 * height < length (now from)) × (first + 3 * height < length (now to)) ⌝ }
-    ensures { λ _. ⌜ now (to .exit) ≡ stored 4 (λ b. cond back (column n b * height + first) (n * 4 + b))
-        (λ b. getD (now (from .entry)) (cond back (n * 4 + b) (column n b * height + first)) 0) (now (to .entry)) ⌝ }
+// The four bits of nibble n, whose row starts at `first`, from rows to coded bits or back.
+fn move_nibble(n: usize, first: usize, back: bool, from: &[u8], to: &mut [u8])
+    requires { ⌜ (n * 4 + 4 ≤ length (now from)) × (n * 4 + 4 ≤ length (now to)) × (first + 4 ≤ length (now from)) × (first + 4 ≤ length (now to)) ⌝ }
+    ensures { λ _. ⌜ now (to .exit) ≡ stored 4 (λ b. cond back (first + column n b) (n * 4 + b))
+        (λ b. getD (now (from .entry)) (cond back (n * 4 + b) (first + column n b)) 0) (now (to .entry)) ⌝ }
 {
     let turn = (n / 2 % 4) as u32;
     if back {
         let word = words::gather(from, n * 4, 1);
-        words::scatter(words::turned(word, (4 - turn) % 4), first, height, to);
+        words::scatter(words::turned_back(word, turn), first, 1, to);
     } else {
-        let word = words::gather(from, first, height);
+        let word = words::gather(from, first, 1);
         words::scatter(words::turned(word, turn), n * 4, 1, to);
     }
 }
@@ -107,7 +116,7 @@ fn move_parity(l: Layout, at: Stand, back: bool, from: &[u8], to: &mut [u8]) -> 
     if 0 < at.left {
         return at;
     }
-    move_nibble(at.nibble, l.rows * 4 + at.row, l.parity, back, from, to);
+    move_nibble(at.nibble, (l.rows + at.row) * 4, back, from, to);
     Stand {
         nibble: at.nibble + 1,
         left: l.group,
@@ -131,7 +140,7 @@ fn move_data(l: Layout, start: Run, end: usize, back: bool, from: &[u8], to: &mu
     let mut nibble = start.nibble;
     let mut row = start.row;
     while row < end {
-        move_nibble(nibble, row, l.rows, back, from, to);
+        move_nibble(nibble, row * 4, back, from, to);
         nibble += 1;
         row += l.step;
     }
@@ -207,7 +216,7 @@ fn move_run(
     to: &mut [u8],
 ) -> Run
     requires { ⌜ (Sound l) × (Small l) × (Paired l) × (Runs l start) × (end ≤ l .rows)
-        × ((row : ℕ) → start .row ≤ row → row < end → apart + row ≡ l .rows * 4 + movedRow (l .rows) (l .offset) row)
+        × ((row : ℕ) → start .row ≤ row → row < end → apart + row ≡ l .rows + movedRow (l .rows) (l .offset) row)
         × (length (now from) ≡ codedOf l) × (codedOf l ≤ length (now to)) ⌝ }
     ensures stands { λ r. ⌜ (start .nibble ≤ r .nibble) × (Runs l r) × (r .pass ≡ start .pass) × (end ≤ r .row) ⌝ }
     ensures moved { λ r. ⌜ now (to .exit) ≡ carried l back (now (from .entry)) (start .nibble) (r .nibble) (now (to .entry)) ⌝ }
@@ -216,8 +225,8 @@ fn move_run(
     let mut nibble = start.nibble;
     let mut row = start.row;
     while row < end {
-        move_nibble(nibble, row, l.rows, back, from, to);
-        move_nibble(nibble + 1, apart + row, l.rows, back, from, to);
+        move_nibble(nibble, row * 4, back, from, to);
+        move_nibble(nibble + 1, (apart + row) * 4, back, from, to);
         nibble += 2;
         row += l.step;
     }
@@ -230,8 +239,7 @@ fn move_pairs(l: Layout, back: bool, from: &[u8], to: &mut [u8])
     ensures { λ _. ⌜ now (to .exit) ≡ carried l back (now (from .entry)) 0 (l .rows + l .parity) (now (to .entry)) ⌝ }
 {
     let bend = l.rows - l.offset;
-    let before = l.rows * 4 + l.offset;
-    let after = l.rows * 3 + l.offset;
+    let before = l.rows + l.offset;
     let mut nibble: usize = 0;
     let mut pass: usize = 0;
     while pass < l.step {
@@ -241,17 +249,17 @@ fn move_pairs(l: Layout, back: bool, from: &[u8], to: &mut [u8])
             pass,
         };
         let past = move_run(l, start, bend, before, back, from, to);
-        let last = move_run(l, past, l.rows, after, back, from, to);
+        let last = move_run(l, past, l.rows, l.offset, back, from, to);
         nibble = last.nibble;
         pass += 1;
     }
 }
 
-// All bits of a block, from source bits to coded bits or back. Of pairs each direction is a call of its own, so that no nibble tests it.
+// All bits of a block, from rows to coded bits or back. Of pairs each direction is a call of its own, so that no nibble tests it.
 fn move_bits(kind: usize, rate: usize, back: bool, from: &[u8], to: &mut [u8])
     requires { ⌜ (Defined kind rate) × (length (now from) ≡ codedBits kind rate) × (codedBits kind rate ≤ length (now to)) ⌝ }
-    ensures { λ _. ⌜ now (to .exit) ≡ stored (codedBits kind rate) (target back (source kind rate))
-        (λ i. getD (now (from .entry)) (origin back (source kind rate) i) 0) (now (to .entry)) ⌝ }
+    ensures { λ _. ⌜ now (to .exit) ≡ stored (codedBits kind rate) (target back (rowPlace kind rate))
+        (λ i. getD (now (from .entry)) (origin back (rowPlace kind rate) i) 0) (now (to .entry)) ⌝ }
 {
     let l = layout_of(kind, rate);
     if l.continuous {
@@ -272,18 +280,27 @@ pub fn coded_bits(kind: usize, rate: usize) -> usize
     (l.rows + l.parity) * 4
 }
 
-// The coded bits of a block's source bits, at the start of `out`.
-pub fn interleave(kind: usize, rate: usize, bits: &[u8], out: &mut [u8])
-    requires { ⌜ (Defined kind rate) × (length (now bits) ≡ codedBits kind rate) × (codedBits kind rate ≤ length (now out)) ⌝ }
-    ensures { λ _. ⌜ now (out .exit) ≡ written (codedBits kind rate) (λ i. getD (now (bits .entry)) (source kind rate i) 0) (now (out .entry)) ⌝ }
+// The number of parity rows.
+pub fn parity_rows(kind: usize, rate: usize) -> usize
+    requires { ⌜ Defined kind rate ⌝ }
+    ensures { λ r. ⌜ r ≡ layoutOf kind rate .parity ⌝ }
 {
-    move_bits(kind, rate, false, bits, out);
+    let l = layout_of(kind, rate);
+    l.parity
 }
 
-// The source bits of a block's coded bits, at the start of `out`.
-pub fn deinterleave(kind: usize, rate: usize, coded: &[u8], out: &mut [u8])
-    requires { ⌜ (Defined kind rate) × (length (now coded) ≡ codedBits kind rate) × (codedBits kind rate ≤ length (now out)) ⌝ }
-    ensures { λ _. ⌜ now (out .exit) ≡ written (codedBits kind rate) (λ k. getD (now (coded .entry)) (codedAt kind rate k) 0) (now (out .entry)) ⌝ }
+// The coded bits of a block's rows, at the start of `out`.
+pub fn interleave(kind: usize, rate: usize, rows: &[u8], out: &mut [u8])
+    requires { ⌜ (Defined kind rate) × (length (now rows) ≡ codedBits kind rate) × (codedBits kind rate ≤ length (now out)) ⌝ }
+    ensures { λ _. ⌜ now (out .exit) ≡ written (codedBits kind rate) (λ i. getD (now (rows .entry)) (rowPlace kind rate i) 0) (now (out .entry)) ⌝ }
 {
-    move_bits(kind, rate, true, coded, out);
+    move_bits(kind, rate, false, rows, out);
+}
+
+// The rows of a block's coded bits, at the start of `rows`.
+pub fn deinterleave(kind: usize, rate: usize, coded: &[u8], rows: &mut [u8])
+    requires { ⌜ (Defined kind rate) × (length (now coded) ≡ codedBits kind rate) × (codedBits kind rate ≤ length (now rows)) ⌝ }
+    ensures { λ _. ⌜ now (rows .exit) ≡ written (codedBits kind rate) (λ j. getD (now (coded .entry)) (codedAt kind rate (rowSource kind rate j)) 0) (now (rows .entry)) ⌝ }
+{
+    move_bits(kind, rate, true, coded, rows);
 }

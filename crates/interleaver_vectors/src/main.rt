@@ -1,7 +1,7 @@
 // Prints, for each kind and rate, the source bit numbers of coded bits 0, 1 and so on, as the interleaver puts them in order.
 use libc::STDOUT_FILENO;
 ghost use mathlib.Core.Path.{_≡_};
-ghost use Prim.Native.Nat.{_<_, _≤_};
+ghost use Prim.Native.Nat.{_+_, _*_, _<_, _≤_};
 ghost use lib.ListN.{length};
 ghost use Rattle.interleaver.specs.Layouts.{Defined};
 ghost use Rattle.interleaver.specs.Source.{codedBits};
@@ -18,25 +18,29 @@ fn joined(high: u8, low: u8) -> u64 {
     (high as u64) * 256 + (low as u64)
 }
 
-// One byte of each index: the lower one where unit is 1, the upper one where it is 256.
-fn number(s: &mut [u8], unit: usize)
-    requires { ⌜ 0 < unit ⌝ }
+// One byte of the source bit's number at each place of so many rows, from `first` on, whose columns were filled one after the other: the lower
+// byte where unit is 1, the upper one where it is 256.
+fn number(s: &mut [u8], first: usize, height: usize, unit: usize)
+    requires { ⌜ (0 < unit) × (first + height * 4 ≤ length (now s)) ⌝ }
 {
-    let mut i: usize = 0;
-    while i < s.len() {
-        s[i] = (i / unit % 256) as u8;
-        i += 1;
+    let mut j: usize = 0;
+    while j < height * 4 {
+        s[first + j] = ((first + j % 4 * height + j / 4) / unit % 256) as u8;
+        j += 1;
     }
 }
 
-// Those bytes in coded order.
+// Those bytes of all rows in coded order.
 fn shuffle(kind: usize, rate: usize, unit: usize, out: &mut [u8])
     requires { ⌜ (Defined kind rate) × (0 < unit) × (codedBits kind rate ≤ length (now out)) ⌝ }
 {
     let n = interleaver::coded_bits(kind, rate);
-    let mut bits = room();
-    number(&mut bits, unit);
-    interleaver::interleave(kind, rate, &bits[..n], out);
+    let data = interleaver::data_rows(kind);
+    let parity = interleaver::parity_rows(kind, rate);
+    let mut rows = room();
+    number(&mut rows, 0, data, unit);
+    number(&mut rows, data * 4, parity, unit);
+    interleaver::interleave(kind, rate, &rows[..n], out);
 }
 
 // A line of n numbers.

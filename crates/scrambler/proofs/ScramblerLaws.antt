@@ -7,6 +7,7 @@ use native.Mathlib.Nat.{add-zero, add-suc}
 use native.Mathlib.Numerals.{add-one}
 use native.Mathlib.Omega.{arith}
 use lib.Bits.{bitXor, xor-lt}
+use lib.Dec.{lit≤}
 use lib.ListN.{length, getD, drop}
 use Rattle.bits.specs.Lists.{written}
 use Rattle.bits.specs.Bits.{bitOf, pack, byteOf, bytesOf}
@@ -90,22 +91,36 @@ follows-twice near far h n =
     (scrambler-binary allOnes _) (scrambler-binary allOnes _) (scrambler-binary allOnes _)
     ∙ ap (λ (m : ℕ). bitXor (b n) (b m)) last
 
--- squared three times it holds of bytes
-pub byte-follows : (i : ℕ) → 10 ≤ i → bitXor (scramblerByte (i - 10)) (scramblerByte (i - 3)) ≡ scramblerByte i
+-- at distances in bytes it holds of bytes
+byte-follows : (near far : ℕ) → near ≤ far → Follows (8 * (far - near)) (8 * far)
+    → (i : ℕ) → far ≤ i → bitXor (scramblerByte (i - far)) (scramblerByte (i - near)) ≡ scramblerByte i
 unfolding byteOf scramblerByte
-byte-follows i h =
+byte-follows near far l law i h =
     sym
-    (pack-ext 8 _ (λ j. bitXor (scramblerBit allOnes (8 * (i - 10) + j)) (scramblerBit allOnes (8 * (i - 3) + j))) bits
-    ∙ pack-xor 8 _ _ (λ j l. scrambler-binary allOnes (8 * (i - 10) + j)) (λ j l. scrambler-binary allOnes (8 * (i - 3) + j)))
+    (pack-ext 8 _ (λ j. bitXor (scramblerBit allOnes (8 * (i - far) + j)) (scramblerBit allOnes (8 * (i - near) + j))) bits
+    ∙ pack-xor 8 _ _ (λ j l. scrambler-binary allOnes (8 * (i - far) + j)) (λ j l. scrambler-binary allOnes (8 * (i - near) + j)))
   where
     bits : (j : ℕ) → j < 8
-        → scramblerBit allOnes (8 * i + j) ≡ bitXor (scramblerBit allOnes (8 * (i - 10) + j)) (scramblerBit allOnes (8 * (i - 3) + j))
-    bits j l =
-        let far : 8 * i + j ≡ 8 * (i - 10) + j + 80 = omega arith in
-        let near : 8 * (i - 10) + j + 56 ≡ 8 * (i - 3) + j = omega arith in
-        ap (scramblerBit allOnes) far
-        ∙ follows-twice 28 40 (follows-twice 14 20 (follows-twice 7 10 follows-ten)) (8 * (i - 10) + j)
-        ∙ ap (λ (m : ℕ). bitXor (scramblerBit allOnes (8 * (i - 10) + j)) (scramblerBit allOnes m)) near
+        → scramblerBit allOnes (8 * i + j) ≡ bitXor (scramblerBit allOnes (8 * (i - far) + j)) (scramblerBit allOnes (8 * (i - near) + j))
+    bits j b =
+        let at : 8 * i + j ≡ 8 * (i - far) + j + 8 * far = omega arith in
+        let after : 8 * (i - far) + j + 8 * (far - near) ≡ 8 * (i - near) + j = omega arith in
+        ap (scramblerBit allOnes) at ∙ law (8 * (i - far) + j)
+        ∙ ap (λ (m : ℕ). bitXor (scramblerBit allOnes (8 * (i - far) + j)) (scramblerBit allOnes m)) after
+
+-- squared three times, and three times more
+follows-eighty : Follows 56 80
+follows-eighty = follows-twice 28 40 (follows-twice 14 20 (follows-twice 7 10 follows-ten))
+
+pub byte-follows-ten : (i : ℕ) → 10 ≤ i → bitXor (scramblerByte (i - 10)) (scramblerByte (i - 3)) ≡ scramblerByte i
+byte-follows-ten = byte-follows 3 10 (lit≤ tt) follows-eighty
+
+pub byte-follows-eighty : (i : ℕ) → 80 ≤ i → bitXor (scramblerByte (i - 80)) (scramblerByte (i - 24)) ≡ scramblerByte i
+byte-follows-eighty = byte-follows 24 80 (lit≤ tt) (follows-twice 224 320 (follows-twice 112 160 (follows-twice 56 80 follows-eighty)))
+
+-- the first n bytes, where they are written
+pub bytes-held : (n : ℕ) (was now : List ℕ) → now ≡ written n scramblerByte was → (k : ℕ) → k < n → getD now k 0 ≡ scramblerByte k
+bytes-held n was now e k h = ap (λ (s : List ℕ). getD s k 0) e ∙ getD-written n scramblerByte was k 0 h
 
 -- ---- bits
 

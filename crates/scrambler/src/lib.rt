@@ -3,7 +3,7 @@
 // Internal: nothing here is a public entry. A function with a `requires` is called only where its caller has shown it.
 ghost use mathlib.Core.Path.{_≡_};
 ghost use mathlib.Core.List.{_++_};
-ghost use Prim.Native.Nat.{ℕ, _<_, _≤_};
+ghost use Prim.Native.Nat.{ℕ, _-_, _<_, _≤_};
 ghost use lib.Bits.{bitXor};
 ghost use lib.ListN.{length, getD, drop};
 ghost use Rattle.bits.specs.Bits.{pack};
@@ -81,20 +81,23 @@ fn step_bytes(count: usize, out: &mut [u8])
     }
 }
 
-// The scrambler's bytes from its first ten: each is the exclusive-or of the bytes ten and three before it, far quicker than eight
-// steps of the register.
-fn follow_bytes(count: usize, out: &mut [u8])
-    requires { ⌜ (10 ≤ count) × (count ≤ length (now out)) × ((k : ℕ) → k < 10 → getD (now out) k 0 ≡ scramblerByte k) ⌝ }
+// The scrambler's bytes from its first `from`: each is the exclusive-or of the bytes `far` and `near` before it, far quicker than
+// eight steps of the register.
+fn follow_bytes(from: usize, far: usize, near: usize, count: usize, out: &mut [u8])
+    requires { ⌜ (0 < near) × (near ≤ far) × (far ≤ from) × (from ≤ count) × (count ≤ length (now out)) ⌝ }
+    requires { ⌜ ((k : ℕ) → k < from → getD (now out) k 0 ≡ scramblerByte k) ⌝ }
+    requires { ⌜ ((i : ℕ) → far ≤ i → bitXor (scramblerByte (i - far)) (scramblerByte (i - near)) ≡ scramblerByte i) ⌝ }
     ensures { λ _. ⌜ now (out .exit) ≡ written count scramblerByte (now (out .entry)) ⌝ }
 {
-    let mut i: usize = 10;
+    let mut i: usize = from;
     while i < count {
-        out[i] = out[i - 10] ^ out[i - 3];
+        out[i] = out[i - far] ^ out[i - near];
         i += 1;
     }
 }
 
-// The scrambler's bytes, at the start of `out`.
+// The scrambler's bytes, at the start of `out`. The law of bytes ten and three before holds of eighty and twenty-four before too,
+// and there the compiler takes sixteen at a time.
 fn put_bytes(count: usize, out: &mut [u8])
     requires { ⌜ count ≤ length (now out) ⌝ }
     ensures { λ _. ⌜ now (out .exit) ≡ written count scramblerByte (now (out .entry)) ⌝ }
@@ -104,20 +107,12 @@ fn put_bytes(count: usize, out: &mut [u8])
         return;
     }
     step_bytes(10, out);
-    follow_bytes(count, out);
-}
-
-// The exclusive-or of each byte with what stands at its place in `out`.
-fn add_bytes(bytes: &[u8], out: &mut [u8])
-    requires { ⌜ length (now bytes) ≤ length (now out) ⌝ }
-    ensures { λ _. ⌜ now (out .exit) ≡ written (length (now (bytes .entry)))
-        (λ k. bitXor (getD (now (bytes .entry)) k 0) (getD (now (out .entry)) k 0)) (now (out .entry)) ⌝ }
-{
-    let mut i: usize = 0;
-    while i < bytes.len() {
-        out[i] = bytes[i] ^ out[i];
-        i += 1;
+    if count < 80 {
+        follow_bytes(10, 10, 3, count, out);
+        return;
     }
+    follow_bytes(10, 10, 3, 80, out);
+    follow_bytes(80, 80, 24, count, out);
 }
 
 // A block, scrambled, at the start of `out`. Done twice it gives the block back, so it descrambles too.
@@ -126,5 +121,5 @@ pub fn scramble(bytes: &[u8], out: &mut [u8])
     ensures { λ _. ⌜ now (out .exit) ≡ scramble (now (bytes .entry)) ++ drop (length (now (bytes .entry))) (now (out .entry)) ⌝ }
 {
     put_bytes(bytes.len(), out);
-    add_bytes(bytes, out);
+    bits::add_bytes(bytes, out);
 }

@@ -1,30 +1,27 @@
--- The kept parity bits: that they are bits, which data they ask for, and the loops that go over the pairs. Assumes nothing.
+-- The kept parity bits: that they are bits, which data they ask for, and that the encoders and puncturing give them. Assumes nothing.
 use mathlib.Core.Path.{_≡_, refl, sym, ap, ap₂, _∙_}
 use mathlib.Core.Bool.{Bool, true, false, cond}
 use mathlib.Core.List.{List}
 use Prim.Native.Nat.{ℕ, zero, suc, _+_, _-_, _*_, _/_, _%_, _^_, _≤_, _<_}
-use native.Mathlib.Numerals.{add-one}
 use native.Mathlib.Omega.{arith}
-use lib.Dec.{eqb, lit<}
-use lib.ListN.{length, getD, set, take, length-take}
-use lib.Seq.{getD-take}
-use Rattle.bits.specs.Bits.{bitOf, pack, byteOf, bytesOf}
+use lib.Dec.{eqb}
+use lib.ListN.{length, getD}
+use Rattle.bits.specs.Bits.{bitOf, pack, byteOf}
 use Rattle.bits.specs.Lists.{written}
-use Rattle.bits.specs.Sums.{count}
-use Rattle.bits.proofs.ListLaws.{getD-tabulate, length-written, getD-written, written-two, written-ext}
-use Rattle.bits.proofs.BitLaws.{bits-bytes}
+use Rattle.bits.proofs.ListLaws.{length-written, getD-written}
+use Rattle.bits.proofs.BitLaws.{bytes-ext, written-bits}
 use Rattle.card.specs.Modes.{blockBytes}
-use Rattle.turbo.specs.Pairs.{pairCount, pairAt}
-use Rattle.turbo.specs.Encoder.{next, parity, stateAt, startOf, ringStart, parityAt}
-use Rattle.turbo.specs.Interleave.{place, exchangedAt, interleavedBy, interleaved}
-use Rattle.turbo.specs.Puncture.{row, kept, keptTime, keptCount}
-use Rattle.turbo.specs.Bytes.{fourFrom}
-use Rattle.turbo.specs.Parity.{inputOf, keptBit, bothBits, punctured, Inputs}
-use Rattle.turbo.proofs.RingLaws.{state-lt, state-ext, parity-lt, parity-ext}
-use Rattle.turbo.proofs.InterleaveLaws.{place-permutes}
-use Rattle.turbo.proofs.PunctureLaws.{kept-time, time-lt, all-count, all-time}
-use Rattle.turbo.proofs.StepLaws.{pair-lt, pair-read, four-read}
-use Rattle.turbo.proofs.ByteLaws.{stateBy, parityBy}
+use Rattle.constituent.specs.Pairs.{pairCount, pairAt, fourFrom}
+use Rattle.constituent.specs.Encoder.{parityAt}
+use Rattle.constituent.specs.Passes.{inTurn, Blocks}
+use Rattle.constituent.proofs.RingLaws.{parity-lt, parity-ext}
+use Rattle.constituent.proofs.PairLaws.{pair-lt, pair-read, four-read}
+use Rattle.constituent.proofs.PassLaws.{turn-first, turn-second, turn-lt}
+use Rattle.pair_interleaver.specs.Interleave.{place, exchangedAt, interleavedBy, interleaved}
+use Rattle.pair_interleaver.proofs.InterleaveLaws.{place-permutes}
+use Rattle.turbo.specs.Puncture.{row, keptFrom, twoRows, keptTime, keptCount}
+use Rattle.turbo.specs.Parity.{inputOf, keptBit, punctured, Inputs}
+use Rattle.turbo.proofs.PunctureLaws.{time-lt, time-first, time-second, all-count, all-time}
 
 -- ---- for callers
 
@@ -49,114 +46,80 @@ module _ (kind : ℕ) (hk : kind < 5) (d e : ℕ → ℕ) (same : (i : ℕ) → 
   kept-ext rate taps i h =
       parity-ext kind taps (inputOf kind d (i % 2)) (inputOf kind e (i % 2)) (input-ext (i % 2)) (keptTime kind rate (i / 2)) (time-lt kind rate i h)
 
--- ---- for the loops
+-- ---- what the encoders read
 
--- the pairs that the encoders read of bytes are pairs
-exchanged-lt : (x u : ℕ) → u < 4 → exchangedAt x u < 4
-unfolding exchangedAt
-exchanged-lt x u h = go (eqb (x % 2) 0)
+-- interleaved pairs are pairs
+interleaved-lt : (kind : ℕ) (bytes : List ℕ) (t : ℕ) → interleaved kind (pairAt (bitOf bytes)) t < 4
+unfolding interleaved interleavedBy exchangedAt
+interleaved-lt kind bytes t = go (eqb (t % 2) 0) _ (pair-lt bytes _)
   where
-    go : (b : Bool) → cond b (u / 1 % 2 * 2 + u / 2 % 2) u < 4
-    go true = omega arith
-    go false = h
+    go : (b : Bool) (u : ℕ) → u < 4 → cond b (u / 1 % 2 * 2 + u / 2 % 2) u < 4
+    go true u h = omega arith
+    go false u h = h
 
-pub input-lt : (kind n : ℕ) (bytes : List ℕ) (t : ℕ) → inputOf kind (bitOf bytes) n t < 4
-unfolding inputOf interleaved interleavedBy
-input-lt kind zero bytes t = pair-lt bytes t
-input-lt kind (suc n) bytes t = exchanged-lt t _ (pair-lt bytes _)
+-- the encoders' bytes, once the interleaved pairs are packed
+pub inputs : (kind : ℕ) (bytes was second : List ℕ) → kind < 5 → length bytes ≡ blockBytes kind → blockBytes kind ≤ length was
+    → second ≡ written (blockBytes kind) (fourFrom (interleaved kind (pairAt (bitOf bytes)))) was → Inputs kind bytes second
+inputs kind bytes was second hk hb hw e =
+    record {
+      defined = hk;
+      whole = hb;
+      room = rw (e, length-written (blockBytes kind) (fourFrom (interleaved kind (pairAt (bitOf bytes)))) was) hw;
+      held = λ t h.
+          sym (pair-read second t)
+          ∙ ap (λ (m : ℕ). m / 2 ^ (6 - 2 * (t % 4)) % 4)
+          (ap (λ (l : List ℕ). getD l (t / 4) 0) e ∙ getD-written (blockBytes kind) (fourFrom (interleaved kind (pairAt (bitOf bytes)))) was (t / 4) 0 (omega arith))
+          ∙ four-read (interleaved kind (pairAt (bitOf bytes))) (interleaved-lt kind bytes) t;
+    }
 
-pub input-one : (kind : ℕ) (d : ℕ → ℕ) (t : ℕ) → pairAt d t ≡ inputOf kind d 0 t
-unfolding inputOf
-input-one kind d t = refl
+pub blocks : (kind : ℕ) (bytes second : List ℕ) → Inputs kind bytes second → Blocks kind bytes second
+blocks kind bytes second I = record { defined = I .defined; whole = I .whole; room = I .room }
 
-module _ (taps : ℕ) (p : ℕ → ℕ) (s : ℕ) where
-  -- no pair yet, and one more
-  pub state-none : s ≡ stateAt taps p s 0
-  unfolding stateAt
-  state-none = refl
+-- ---- what puncturing gives
 
-  pub state-next : (t a u r : ℕ) → a ≡ stateAt taps p s t → u ≡ p t → r ≡ next taps a u → r ≡ stateAt taps p s (t + 1)
-  unfolding stateAt
-  state-next t a u r ha hu hr = hr ∙ rw add-one (ap₂ (next taps) ha hu)
+punctured-ext : (kind rate : ℕ) (f g : ℕ → ℕ) → ((i : ℕ) → i < 8 * blockBytes kind → f i ≡ g i) → (i : ℕ) → i < keptCount kind rate
+    → punctured kind rate f i ≡ punctured kind rate g i
+unfolding punctured
+punctured-ext kind rate f g e i h = e (2 * keptTime kind rate (i / 2) + i % 2) (omega (arith, time-lt kind rate i h))
 
-  pub state-small : (t a : ℕ) → s < 8 → a ≡ stateAt taps p s t → a < 8
-  state-small t a h ha = rw ha (state-lt taps p s h t)
+-- a byte is four pairs
+byte-pairs : (f : ℕ → ℕ) (i : ℕ) → fourFrom (pairAt f) i ≡ byteOf f i
+unfolding byteOf pack pairAt
+byte-pairs f i =
+    let a : 2 * (4 * i) ≡ 8 * i + 0 = omega arith in
+    let b : 2 * (4 * i) + 1 ≡ 8 * i + 1 = omega arith in
+    let c : 2 * (4 * i + 1) ≡ 8 * i + 2 = omega arith in
+    let d : 2 * (4 * i + 1) + 1 ≡ 8 * i + 3 = omega arith in
+    let e : 2 * (4 * i + 2) ≡ 8 * i + 4 = omega arith in
+    let g : 2 * (4 * i + 2) + 1 ≡ 8 * i + 5 = omega arith in
+    let h : 2 * (4 * i + 3) ≡ 8 * i + 6 = omega arith in
+    let j : 2 * (4 * i + 3) + 1 ≡ 8 * i + 7 = omega arith in
+    omega (arith, ap f a, ap f b, ap f c, ap f d, ap f e, ap f g, ap f h, ap f j)
 
--- parity bit i of both encoders in turn
-both-at : (kind taps : ℕ) (d : ℕ → ℕ) (e i t : ℕ) → i % 2 ≡ e → i / 2 ≡ t → bothBits kind taps d i ≡ parityAt kind taps (inputOf kind d e) t
-unfolding bothBits
-both-at kind taps d e i t he ht = rw (he, ht)
+-- the pair that is kept after n others
+punctured-pair : (kind rate : ℕ) (b : ℕ → ℕ) (n : ℕ) → pairAt (punctured kind rate b) n ≡ pairAt b (keptTime kind rate n)
+unfolding punctured pairAt
+punctured-pair kind rate b n =
+    let c : 2 * n / 2 ≡ n = omega arith in
+    let d : 2 * n % 2 ≡ 0 = omega arith in
+    let e : (2 * n + 1) / 2 ≡ n = omega arith in
+    let f : (2 * n + 1) % 2 ≡ 1 = omega arith in
+    let z : 2 * keptTime kind rate n + 0 ≡ 2 * keptTime kind rate n = omega arith in
+    rw (c, d, e, f, z)
 
--- ---- both passes, over bytes of the pairs p
-
-module _ (kind taps : ℕ) (p : ℕ → ℕ) (bytes : List ℕ) (same : (t : ℕ) → t < pairCount kind → pairAt (bitOf bytes) t ≡ p t) where
-  -- where pass two starts when pass one ends at a, which is eight times a state
-  pub ring-from : (i a r : ℕ) → 4 * i ≡ pairCount kind → a ≡ stateBy taps bytes 0 (4 * i) * 8 → r ≡ startOf kind (a / 8) → r ≡ ringStart kind taps p
-  unfolding ringStart
-  ring-from i a r e ha hr =
-      let z : a / 8 ≡ stateBy taps bytes 0 (4 * i) = omega arith in
-      hr ∙ ap (startOf kind) (z ∙ ap (stateBy taps bytes 0) e ∙ state-ext taps (pairAt (bitOf bytes)) p 0 (pairCount kind) same)
-
-  -- what pass two gives
-  parity-by : (t : ℕ) → t < pairCount kind → parityBy taps bytes (ringStart kind taps p) t ≡ parityAt kind taps p t
-  unfolding parityAt
-  parity-by t h = ap₂ (parity taps) (state-ext taps (pairAt (bitOf bytes)) p (ringStart kind taps p) t (λ k l. same k (omega arith))) (same t h)
-
-  pub four-by : (i : ℕ) → 4 * i + 4 ≤ pairCount kind → fourFrom (parityBy taps bytes (ringStart kind taps p)) i ≡ fourFrom (parityAt kind taps p) i
-  four-by i h =
-      rw (parity-by (4 * i) (omega arith), parity-by (4 * i + 1) (omega arith), parity-by (4 * i + 2) (omega arith), parity-by (4 * i + 3) (omega arith))
-
--- four parity bits of each encoder, in turn, are a byte
-pub both-byte : (kind taps : ℕ) (d : ℕ → ℕ) (i x y : ℕ) → x ≡ fourFrom (parityAt kind taps (inputOf kind d 0)) i
-    → y ≡ fourFrom (parityAt kind taps (inputOf kind d 1)) i → 2 * x + y ≡ byteOf (bothBits kind taps d) i
-unfolding byteOf pack
-both-byte kind taps d i x y hx hy =
-    let at = both-at kind taps d in
-    omega (
-      arith,
-      hx,
-      hy,
-      at 0 (8 * i + 0) (4 * i) (omega arith) (omega arith),
-      at 1 (8 * i + 1) (4 * i) (omega arith) (omega arith),
-      at 0 (8 * i + 2) (4 * i + 1) (omega arith) (omega arith),
-      at 1 (8 * i + 3) (4 * i + 1) (omega arith) (omega arith),
-      at 0 (8 * i + 4) (4 * i + 2) (omega arith) (omega arith),
-      at 1 (8 * i + 5) (4 * i + 2) (omega arith) (omega arith),
-      at 0 (8 * i + 6) (4 * i + 3) (omega arith) (omega arith),
-      at 1 (8 * i + 7) (4 * i + 3) (omega arith) (omega arith),
-    )
-
--- the bits of such bytes are the parity bits again
-pub both-bits : (kind taps : ℕ) (d : ℕ → ℕ) (n : ℕ) (was packed : List ℕ) → packed ≡ written n (byteOf (bothBits kind taps d)) was
-    → (i : ℕ) → i < 8 * n → bitOf packed i ≡ bothBits kind taps d i
-unfolding bitOf bytesOf bothBits
-both-bits kind taps d n was packed e i h =
-    ap (λ (m : ℕ). m / 2 ^ (7 - i % 8) % 2)
-    (ap (λ (l : List ℕ). getD l (i / 8) 0) e
-    ∙ getD-written n (byteOf (bothBits kind taps d)) was (i / 8) 0 (omega arith)
-    ∙ sym (getD-tabulate n (byteOf (bothBits kind taps d)) (i / 8) 0 (omega arith)))
-    ∙ bits-bytes n (bothBits kind taps d) (λ j l. parity-lt kind taps (inputOf kind d (j % 2)) (j / 2)) i h
-
--- ---- puncturing
-
-module _ (kind rate : ℕ) (b : ℕ → ℕ) (t : ℕ) (h : t < pairCount kind) (k : kept rate t ≡ true) where
-  -- at a time that is kept the next two bits are its two
-  kept-here : (n : ℕ) → n < 2 → punctured kind rate b (2 * count t (kept rate) + n) ≡ b (2 * t + n)
-  unfolding punctured
-  kept-here n l =
-      let e : (2 * count t (kept rate) + n) % 2 ≡ n = omega arith in
-      let q : (2 * count t (kept rate) + n) / 2 ≡ count t (kept rate) = omega arith in
-      rw (e, q, kept-time kind rate t h k)
-
-  -- and they are written
-  pub kept-turn : (n v w : ℕ) (out now : List ℕ) → n ≡ 2 * count t (kept rate) → now ≡ written n (punctured kind rate b) out
-      → n + 2 ≤ length out → v ≡ b (2 * t) → w ≡ b (2 * t + 1) → set (set now n v) (n + 1) w ≡ written (n + 2) (punctured kind rate b) out
-  kept-turn n v w out now e f l hv hw =
-      let z : n ≡ 2 * count t (kept rate) + 0 = omega arith in
-      let y : 2 * t ≡ 2 * t + 0 = omega arith in
-      let first : v ≡ punctured kind rate b n = hv ∙ ap b y ∙ sym (kept-here 0 (lit< tt)) ∙ ap (punctured kind rate b) (sym z) in
-      let second : w ≡ punctured kind rate b (n + 1) = hw ∙ sym (kept-here 1 (lit< tt)) ∙ ap (λ (m : ℕ). punctured kind rate b (m + 1)) (sym e) in
-      written-two n v w (punctured kind rate b) out now f (omega arith) first second
+-- two rows, of which two places each are kept, give a byte
+pub rows-byte : (kind rate : ℕ) (p : ℕ → ℕ) (i a c : ℕ) → rate ≡ 1 → a ≡ keptFrom rate 0 → c ≡ keptFrom rate (a + 1) → 32 * i + 32 ≤ pairCount kind
+    → twoRows (pairAt p) (32 * i) a c ≡ byteOf (punctured kind rate p) i
+rows-byte kind rate p i a c e ha hc h =
+    let first : a ≡ keptFrom 1 0 = ha ∙ ap (λ (r : ℕ). keptFrom r 0) e in
+    let second : c ≡ keptFrom 1 (keptFrom 1 0 + 1) = hc ∙ ap₂ (λ (r k : ℕ). keptFrom r (k + 1)) e first in
+    let at : (n t : ℕ) → keptTime kind 1 n ≡ t → pairAt p t ≡ pairAt (punctured kind rate p) n =
+    λ n t q. sym (punctured-pair kind rate p n ∙ ap (λ (r : ℕ). pairAt p (keptTime kind r n)) e ∙ ap (pairAt p) q) in
+    let q1 = at (4 * i) (32 * i + a) (ap (keptTime kind 1) (omega arith) ∙ time-first kind (2 * i) (omega arith) ∙ omega (arith, first)) in
+    let q2 = at (4 * i + 1) (32 * i + c) (ap (keptTime kind 1) (omega arith) ∙ time-second kind (2 * i) (omega arith) ∙ omega (arith, second)) in
+    let q3 = at (4 * i + 2) (32 * i + 16 + a) (ap (keptTime kind 1) (omega arith) ∙ time-first kind (2 * i + 1) (omega arith) ∙ omega (arith, first)) in
+    let q4 = at (4 * i + 3) (32 * i + 16 + c) (ap (keptTime kind 1) (omega arith) ∙ time-second kind (2 * i + 1) (omega arith) ∙ omega (arith, second)) in
+    omega (arith, q1, q2, q3, q4) ∙ byte-pairs (punctured kind rate p) i
 
 -- where all are kept they stay as they are
 punctured-all : (kind rate : ℕ) (b : ℕ → ℕ) → row rate ≡ 65535 → (i : ℕ) → i < 8 * blockBytes kind → b i ≡ punctured kind rate b i
@@ -165,38 +128,45 @@ punctured-all kind rate b e i h =
     let z : 2 * (i / 2) + i % 2 ≡ i = omega arith in
     ap b (sym z ∙ ap (λ (t : ℕ). 2 * t + i % 2) (sym (all-time kind rate e (i / 2) (omega arith))))
 
-pub unpacked-all : (kind rate n : ℕ) (packed out last : List ℕ) → row rate ≡ 65535 → n ≡ blockBytes kind → n ≤ length packed
-    → last ≡ written (8 * length (take n packed)) (bitOf (take n packed)) out → last ≡ written (keptCount kind rate) (punctured kind rate (bitOf packed)) out
-unfolding bitOf
-unpacked-all kind rate n packed out last e q h f =
-    let l : length (take n packed) ≡ n = simp length-take (omega arith) in
-    let m : 8 * length (take n packed) ≡ keptCount kind rate = omega (arith, all-count kind rate e) in
-    f
-    ∙ written-ext (8 * length (take n packed)) (bitOf (take n packed)) (punctured kind rate (bitOf packed)) out
-    (λ i b.
-    let k : i / 8 < n = omega arith in
-    ap (λ (x : ℕ). x / 2 ^ (7 - i % 8) % 2) (getD-take n packed (i / 8) 0 k) ∙ punctured-all kind rate (bitOf packed) e i (omega arith))
-    ∙ ap (λ (k : ℕ). written k (punctured kind rate (bitOf packed)) out) m
+module _ (kind rate taps : ℕ) (bytes second : List ℕ) (I : Inputs kind bytes second) where
+  -- the parity bits of both encoders in turn
+  abbrev both : ℕ → ℕ
+  both = inTurn kind taps (pairAt (bitOf bytes)) (pairAt (bitOf second))
 
--- the kept ones of both encoders' parity bits
-pub punctured-kept : (kind rate taps : ℕ) (d b : ℕ → ℕ) → ((i : ℕ) → i < 8 * blockBytes kind → b i ≡ bothBits kind taps d i)
-    → (i : ℕ) → i < keptCount kind rate → punctured kind rate b i ≡ keptBit kind rate taps d i
-unfolding punctured keptBit
-punctured-kept kind rate taps d b e i h =
-    let t : ℕ = keptTime kind rate (i / 2) in
-    e (2 * t + i % 2) (omega (arith, time-lt kind rate i h)) ∙ both-at kind taps d (i % 2) (2 * t + i % 2) t (omega arith) (omega arith)
+  encoder-bit : (e t : ℕ) → e < 2 → t < pairCount kind → both (2 * t + e) ≡ parityAt kind taps (inputOf kind (bitOf bytes) e) t
+  unfolding inputOf
+  encoder-bit zero t h l =
+      turn-first kind taps (pairAt (bitOf bytes)) (pairAt (bitOf second)) (2 * t + 0) t (omega arith)
+      ∙ parity-ext kind taps (pairAt (bitOf bytes)) (inputOf kind (bitOf bytes) 0) (λ k b. refl) t l
+  encoder-bit (suc zero) t h l =
+      turn-second kind taps (pairAt (bitOf bytes)) (pairAt (bitOf second)) (2 * t + 1) t (omega arith)
+      ∙ parity-ext kind taps (pairAt (bitOf second)) (inputOf kind (bitOf bytes) 1) (I .held) t l
+  encoder-bit (suc (suc e)) t h l = absurd (omega arith)
 
--- what both passes go over, once the pairs of encoder 2 are packed
-pub inputs : (kind : ℕ) (bytes was second : List ℕ) → kind < 5 → length bytes ≡ blockBytes kind → blockBytes kind ≤ length was
-    → second ≡ written (blockBytes kind) (fourFrom (inputOf kind (bitOf bytes) 1)) was → Inputs kind bytes second
-inputs kind bytes was second hk hb hw e =
-    record {
-      defined = hk;
-      whole = hb;
-      room = rw (e, length-written (blockBytes kind) (fourFrom (inputOf kind (bitOf bytes) 1)) was) hw;
-      held = λ t h.
-          sym (pair-read second t)
-          ∙ ap (λ (m : ℕ). m / 2 ^ (6 - 2 * (t % 4)) % 4)
-          (ap (λ (l : List ℕ). getD l (t / 4) 0) e ∙ getD-written (blockBytes kind) (fourFrom (inputOf kind (bitOf bytes) 1)) was (t / 4) 0 (omega arith))
-          ∙ four-read (inputOf kind (bitOf bytes) 1) (input-lt kind 1 bytes) t;
-    }
+  both-kept : (i : ℕ) → i < keptCount kind rate → punctured kind rate both i ≡ keptBit kind rate taps (bitOf bytes) i
+  unfolding punctured keptBit
+  both-kept i h = encoder-bit (i % 2) (keptTime kind rate (i / 2)) (omega arith) (time-lt kind rate i h)
+
+  -- a rate that keeps all
+  pub kept-all-bytes : (out last : List ℕ) → row rate ≡ 65535 → last ≡ written (blockBytes kind) (byteOf both) out
+      → last ≡ written (keptCount kind rate / 8) (byteOf (keptBit kind rate taps (bitOf bytes))) out
+  kept-all-bytes out last e f =
+      let n : blockBytes kind ≡ keptCount kind rate / 8 = omega (arith, all-count kind rate e) in
+      f
+      ∙ bytes-ext (blockBytes kind) both (keptBit kind rate taps (bitOf bytes)) (λ i h.
+      punctured-all kind rate both e i h ∙ both-kept i (omega (arith, all-count kind rate e))) out
+      ∙ ap (λ (k : ℕ). written k (byteOf (keptBit kind rate taps (bitOf bytes))) out) n
+
+  -- the bits of the packed bytes are the parity bits again
+  packed-bits : (was packed : List ℕ) → packed ≡ written (blockBytes kind) (byteOf both) was → (i : ℕ) → i < 8 * blockBytes kind → bitOf packed i ≡ both i
+  packed-bits was packed e i h =
+      written-bits (blockBytes kind) both was packed (λ j l. turn-lt kind taps (pairAt (bitOf bytes)) (pairAt (bitOf second)) j) e i h
+
+  -- and what is kept of them
+  pub kept-some-bytes : (was packed out last : List ℕ) → packed ≡ written (blockBytes kind) (byteOf both) was
+      → last ≡ written (keptCount kind rate / 8) (byteOf (punctured kind rate (bitOf packed))) out
+      → last ≡ written (keptCount kind rate / 8) (byteOf (keptBit kind rate taps (bitOf bytes))) out
+  kept-some-bytes was packed out last e f =
+      f
+      ∙ bytes-ext (keptCount kind rate / 8) (punctured kind rate (bitOf packed)) (keptBit kind rate taps (bitOf bytes)) (λ i h.
+      punctured-ext kind rate (bitOf packed) both (packed-bits was packed e) i (omega arith) ∙ both-kept i (omega arith)) out

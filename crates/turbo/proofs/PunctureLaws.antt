@@ -1,6 +1,6 @@
 -- What puncturing keeps, and the order of the kept times. Assumes nothing.
-use mathlib.Core.Path.{_≡_, refl, sym, ap, _∙_}
-use mathlib.Core.Bool.{true, _||_}
+use mathlib.Core.Path.{_≡_, refl, sym, ap, ap₂, _∙_}
+use mathlib.Core.Bool.{true, false, _||_}
 use Prim.Native.Nat.{ℕ, zero, suc, _+_, _-_, _*_, _/_, _%_, _≤_, _<_, _^_}
 use native.Mathlib.Nat.{mod-lt}
 use native.Mathlib.Omega.{arith}
@@ -13,9 +13,9 @@ use Rattle.bits.specs.Sums.{sum, count}
 use Rattle.bits.proofs.NumberLaws.{lt-cases}
 use Rattle.bits.proofs.RangeLaws.{at-each, agree, agree₂, agree-tests}
 use Rattle.bits.proofs.ListLaws.{lowest-below, lowest-le, lowest-ext}
-use Rattle.bits.proofs.SumLaws.{count-append, count-none, count-le, count-lt, lowest-nth, nth}
-use Rattle.turbo.specs.Pairs.{pairCount}
-use Rattle.turbo.specs.Puncture.{row, kept, strideAt, keptTime, keptCount}
+use Rattle.bits.proofs.SumLaws.{count-append, count-ext, count-le, lowest-nth, nth}
+use Rattle.constituent.specs.Pairs.{pairCount}
+use Rattle.turbo.specs.Puncture.{row, kept, keptFrom, keptTime, keptCount}
 
 -- puncturing goes by t mod 16
 kept-mod : (rate t : ℕ) → kept rate t ≡ kept rate (t % 16)
@@ -60,67 +60,96 @@ time-lt kind rate i h =
     let s : keptTime kind rate (i / 2) ≡ t = ap (keptTime kind rate) (sym q) ∙ kept-time kind rate t l e in
     omega arith
 
--- there is room for the two bits of a time that is kept
-pub kept-room : (kind rate t : ℕ) → t < pairCount kind → kept rate t ≡ true → 2 * count t (kept rate) + 2 ≤ keptCount kind rate
-unfolding keptCount
-kept-room kind rate t h e = omega (arith, count-lt t (pairCount kind) (kept rate) h e)
-
 -- at most all are kept
 pub kept-le : (kind rate : ℕ) → keptCount kind rate ≤ 2 * pairCount kind
 unfolding keptCount
 kept-le kind rate = omega (arith, count-le (pairCount kind) (kept rate))
 
--- ---- from one time that is kept to the next
+-- ---- the places of a row
 
--- a block's times are whole rows, so that no row runs past them
-pub row-within-block : (kind t r l : ℕ) → kind < 5 → t < l → l ≡ pairCount kind → t % 16 + r ≤ 16 → t + r ≤ l
-row-within-block kind t r l h b e f =
-    let w : l % 16 ≡ 0 = rw e (agree 5 (λ k. pairCount k % 16) (λ k. 0) tt kind h) in
-    let q : t / 16 < l / 16 = lt-cases (t / 16) (l / 16) (λ g. g) (λ g. absurd (omega arith)) in
+-- the zeros before the ones that a row has from a place on, as the code counts them, at every rate and place
+abbrev zeros : ℕ → ℕ → ℕ
+zeros rate from = leadingZeros 32 (row rate % (1 * 2 ^ (16 - from) % 4294967296))
+
+pub kept-from : (rate from : ℕ) → rate < 2 → from < 16 → zeros rate from - 16 ≡ keptFrom rate from
+unfolding keptFrom kept lowest leadingZeros
+kept-from = agree₂ 2 16 (λ rate from. zeros rate from - 16) keptFrom tt
+
+pub zeros-few : (rate from : ℕ) → zeros rate from ≤ 32
+zeros-few rate from = leading-le 32 (row rate % (1 * 2 ^ (16 - from) % 4294967296))
+
+pub zeros-many : (rate from : ℕ) → rate < 2 → from < 16 → 16 ≤ zeros rate from
+unfolding leadingZeros
+zeros-many rate from h l =
+    leb→le 16 (zeros rate from) (at-each 16 (λ m. leb 16 (zeros rate m)) (at-each 2 (λ r. allBelow 16 (λ m. leb 16 (zeros r m))) tt rate h) from l)
+
+pub rest-some : (from : ℕ) → from < 16 → 0 < 1 * 2 ^ (16 - from) % 4294967296
+rest-some from l = ltb→lt 0 _ (at-each 16 (λ m. ltb 0 (1 * 2 ^ (16 - m) % 4294967296)) tt from l)
+
+-- ---- two times of every sixteen
+
+-- the two places that rate 16/18 keeps, and how many are kept before each
+two-places : (keptFrom 1 0 < 16) × (keptFrom 1 (keptFrom 1 0 + 1) < 16) × (kept 1 (keptFrom 1 0) ≡ true) × (kept 1 (keptFrom 1 (keptFrom 1 0 + 1)) ≡ true)
+    × (count (keptFrom 1 0) (kept 1) ≡ 0) × (count (keptFrom 1 (keptFrom 1 0 + 1)) (kept 1) ≡ 1)
+unfolding keptFrom kept lowest count sum
+two-places = (lit< tt, lit< tt, refl, refl, refl, refl)
+
+-- a row has the places of the first
+kept-row : (r k : ℕ) → kept 1 (16 * r + k) ≡ kept 1 k
+kept-row r k = let e : (16 * r + k) % 16 ≡ k % 16 = omega arith in kept-mod 1 (16 * r + k) ∙ ap (kept 1) e ∙ sym (kept-mod 1 k)
+
+row-two : count 16 (kept 1) ≡ 2
+unfolding kept count sum
+row-two = refl
+
+-- how many are kept before row r, and before its place p
+count-rows : (r : ℕ) → count (16 * r) (kept 1) ≡ 2 * r
+unfolding count sum
+count-rows zero = refl
+count-rows (suc r) =
+    let e : 16 * suc r ≡ 16 * r + 16 = omega arith in
+    ap (λ (m : ℕ). count m (kept 1)) e
+    ∙ count-append (16 * r) 16 (kept 1)
+    ∙ ap₂ _+_ (count-rows r) (count-ext 16 (λ k. kept 1 (16 * r + k)) (kept 1) (λ k h. kept-row r k) ∙ row-two)
+    ∙ omega arith
+
+count-row : (r p : ℕ) → count (16 * r + p) (kept 1) ≡ 2 * r + count p (kept 1)
+count-row r p =
+    count-append (16 * r) p (kept 1) ∙ ap₂ _+_ (count-rows r) (count-ext p (λ k. kept 1 (16 * r + k)) (kept 1) (λ k h. kept-row r k))
+
+-- the rate that does not keep all
+pub not-all : (rate : ℕ) → rate < 2 → eqb (row rate) 65535 ≡ false → rate ≡ 1
+not-all zero h e = let z : _≡_ {A = ℕ} 0 1 = cc in absurd (omega arith)
+not-all (suc zero) h e = refl
+not-all (suc (suc rate)) h e = absurd (omega arith)
+
+-- both places are in their row
+pub places-lt : (rate : ℕ) → rate ≡ 1 → (keptFrom rate 0 < 15) × (keptFrom rate (keptFrom rate 0 + 1) < 16)
+unfolding keptFrom kept lowest
+places-lt rate e = rw e (lit< tt, lit< tt)
+
+-- two rows for each byte that is kept are in the block
+pub rows-in-block : (kind rate i : ℕ) → kind < 5 → rate ≡ 1 → i < keptCount kind rate / 8 → 32 * i + 32 ≤ pairCount kind
+unfolding ones onesIn
+rows-in-block kind rate i h e l =
+    let n : pairCount kind / 8 * 2 ≡ keptCount kind 1 = kept-count kind 1 h (lit< tt) in
+    let b : i < keptCount kind 1 / 8 = rw e at l in
     omega arith
 
-stride-mod : (rate t : ℕ) → strideAt rate (t % 16) ≡ strideAt rate t
-unfolding strideAt
-stride-mod rate t =
-    let e : t % 16 % 16 ≡ t % 16 = omega arith in
-    ap (λ (n : ℕ). 1 + lowest (15 - n) (λ k. kept rate (t % 16 + 1 + k))) e
-    ∙ ap (_+_ 1) (lowest-ext (15 - t % 16) (λ k. kept rate (t % 16 + 1 + k)) (λ k. kept rate (t + 1 + k)) (λ k h.
-    kept-mod rate (t % 16 + 1 + k) ∙ ap (kept rate) (omega arith) ∙ sym (kept-mod rate (t + 1 + k))))
+-- the times that are kept: two of row r
+module _ (kind r : ℕ) (h : 16 * r + 16 ≤ pairCount kind) where
+  pub time-first : keptTime kind 1 (2 * r) ≡ 16 * r + keptFrom 1 0
+  time-first =
+      let t : ℕ = 16 * r + keptFrom 1 0 in
+      let e : count t (kept 1) ≡ 2 * r = omega (arith, count-row r (keptFrom 1 0), two-places .4) in
+      ap (keptTime kind 1) (sym e) ∙ kept-time kind 1 t (omega (arith, two-places .0)) (kept-row r (keptFrom 1 0) ∙ two-places .2)
 
--- the zeros before the ones that a row has after place m, as the code counts them, at every rate and place
-abbrev zeros : ℕ → ℕ → ℕ
-zeros rate m = leadingZeros 16 (row rate % (1 * 2 ^ (15 - m) % 65536))
-
-computed : (rate m : ℕ) → rate < 2 → m < 16 → zeros rate m - m ≡ strideAt rate m
-unfolding strideAt kept lowest leadingZeros
-computed = agree₂ 2 16 (λ rate m. zeros rate m - m) strideAt tt
-
-pub strided : (rate t : ℕ) → rate < 2 → zeros rate (t % 16) - t % 16 ≡ strideAt rate t
-strided rate t h = computed rate (t % 16) h (mod-lt t (lit< tt)) ∙ stride-mod rate t
-
-pub zeros-small : (rate t : ℕ) → zeros rate (t % 16) ≤ 16
-zeros-small rate t = leading-le 16 (row rate % (1 * 2 ^ (15 - t % 16) % 65536))
-
-pub zeros-le : (rate t : ℕ) → rate < 2 → t % 16 ≤ zeros rate (t % 16)
-unfolding leadingZeros
-zeros-le rate t h =
-    leb→le (t % 16) (zeros rate (t % 16)) (at-each 16 (λ m. leb m (zeros rate m)) (at-each 2 (λ r. allBelow 16 (λ m. leb m (zeros r m))) tt rate h) (t % 16) (mod-lt t (lit< tt)))
-
-pub after-some : (t : ℕ) → 0 < 1 * 2 ^ (15 - t % 16) % 65536
-after-some t = ltb→lt 0 _ (at-each 16 (λ m. ltb 0 (1 * 2 ^ (15 - m) % 65536)) tt (t % 16) (mod-lt t (lit< tt)))
-
-pub stride-fits : (rate t : ℕ) → (t % 16 + strideAt rate t ≤ 16) × (0 < strideAt rate t)
-unfolding strideAt
-stride-fits rate t = (omega (arith, lowest-le (15 - t % 16) (λ k. kept rate (t + 1 + k))), omega arith)
-
--- none is kept in between
-pub stride-count : (rate t : ℕ) → count (t + strideAt rate t) (kept rate) ≡ count (t + 1) (kept rate)
-unfolding strideAt
-stride-count rate t =
-    let n : ℕ = lowest (15 - t % 16) (λ k. kept rate (t + 1 + k)) in
-    let z : t + (1 + n) ≡ t + 1 + n = omega arith in
-    let none : count n (λ k. kept rate (t + 1 + k)) ≡ 0 = count-none n _ (lowest-below (15 - t % 16) (λ k. kept rate (t + 1 + k))) in
-    ap (λ (m : ℕ). count m (kept rate)) z ∙ omega (arith, count-append (t + 1) n (kept rate), none)
+  pub time-second : keptTime kind 1 (2 * r + 1) ≡ 16 * r + keptFrom 1 (keptFrom 1 0 + 1)
+  time-second =
+      let p : ℕ = keptFrom 1 (keptFrom 1 0 + 1) in
+      let t : ℕ = 16 * r + p in
+      let e : count t (kept 1) ≡ 2 * r + 1 = omega (arith, count-row r p, two-places .5) in
+      ap (keptTime kind 1) (sym e) ∙ kept-time kind 1 t (omega (arith, two-places .1)) (kept-row r p ∙ two-places .3)
 
 -- ---- a row of ones
 

@@ -5,10 +5,9 @@ use Prim.Native.Nat.{ℕ, zero, suc, _+_, _*_, _/_, _%_, _≤_, _<_}
 use lib.ListN.{length}
 use Rattle.bits.specs.Bits.{bitOf}
 use Rattle.card.specs.Modes.{blockBytes}
-use Rattle.turbo.specs.declared.States.{States}
-use Rattle.turbo.specs.Pairs.{pairCount, pairAt}
-use Rattle.turbo.specs.Encoder.{ringStart, parityAt}
-use Rattle.turbo.specs.Interleave.{interleaved}
+use Rattle.constituent.specs.Pairs.{pairCount, pairAt}
+use Rattle.constituent.specs.Encoder.{parityAt}
+use Rattle.pair_interleaver.specs.Interleave.{interleaved}
 use Rattle.turbo.specs.Puncture.{keptTime}
 
 -- the pairs that encoder 1 (index 0) and encoder 2 (index 1) read of the data bits d
@@ -20,22 +19,13 @@ inputOf kind d (suc e) t = interleaved kind (pairAt d) t
 unfoldable pub keptBit : ℕ → ℕ → ℕ → (ℕ → ℕ) → ℕ → ℕ
 keptBit kind rate taps d i = parityAt kind taps (inputOf kind d (i % 2)) (keptTime kind rate (i / 2))
 
--- the parity bits of both encoders in turn: p(0), q(0), p(1), q(1) and so on
-unfoldable pub bothBits : ℕ → ℕ → (ℕ → ℕ) → ℕ → ℕ
-bothBits kind taps d i = parityAt kind taps (inputOf kind d (i % 2)) (i / 2)
-
--- the kept ones of such bits
+-- the kept ones of the parity bits b of both encoders in turn
 unfoldable pub punctured : ℕ → ℕ → (ℕ → ℕ) → ℕ → ℕ
 punctured kind rate b i = b (2 * keptTime kind rate (i / 2) + i % 2)
 
--- what both passes go over: a block's bytes, and bytes of the pairs that encoder 2 reads of them
+-- what the encoders read: a block's bytes, and bytes of the pairs that encoder 2 reads of them
 pub record Inputs (kind : ℕ) (bytes second : List ℕ) : Type 0 where
   pub defined : kind < 5
   pub whole : length bytes ≡ blockBytes kind
   pub room : blockBytes kind ≤ length second
-  pub held : (t : ℕ) → t < pairCount kind → pairAt (bitOf second) t ≡ inputOf kind (bitOf bytes) 1 t
-
--- the states are those in which pass two starts
-pub record Started (kind taps : ℕ) (bytes : List ℕ) (s : States) : Type 0 where
-  pub one : s .first ≡ ringStart kind taps (inputOf kind (bitOf bytes) 0)
-  pub two : s .second ≡ ringStart kind taps (inputOf kind (bitOf bytes) 1)
+  pub held : (t : ℕ) → t < pairCount kind → pairAt (bitOf second) t ≡ interleaved kind (pairAt (bitOf bytes)) t

@@ -7,7 +7,7 @@ use lib.ListN.{getD}
 use Rattle.bits.specs.Bits.{bitAt}
 use Rattle.bits.specs.Lists.{lowest}
 use Rattle.bits.specs.Sums.{count}
-use Rattle.turbo.specs.Pairs.{pairCount}
+use Rattle.constituent.specs.Pairs.{pairCount}
 
 -- the rows of sixteen places, the same for p and q (000, Tables 9 and 10)
 abbrev pub row : ℕ → ℕ
@@ -17,9 +17,13 @@ row rate = getD (0b1111111111111111 ∷ 0b1000000010000000 ∷ []) rate 0
 unfoldable pub kept : ℕ → ℕ → Bool
 kept rate t = eqb (bitAt (15 - t % 16) (row rate)) 1
 
--- how far it is from t to the next time that is kept, or to the end of its row of sixteen
-unfoldable pub strideAt : ℕ → ℕ → ℕ
-strideAt rate t = 1 + lowest (15 - t % 16) (λ k. kept rate (t + 1 + k))
+-- the first place of a row that is kept, from a place on, or 16
+unfoldable pub keptFrom : ℕ → ℕ → ℕ
+keptFrom rate from = from + lowest (16 - from) (λ k. kept rate (from + k))
+
+-- the pairs p at places a and b of two rows of sixteen from t on, in a byte
+abbrev pub twoRows : (ℕ → ℕ) → ℕ → ℕ → ℕ → ℕ
+twoRows p t a b = p (t + a) * 64 + p (t + b) * 16 + p (t + 16 + a) * 4 + p (t + 16 + b)
 
 -- the time that is kept after j others
 unfoldable pub keptTime : ℕ → ℕ → ℕ → ℕ

@@ -42,8 +42,10 @@ fn print_number(name: &[u8], value: u64) {
 fn print_parity(kind: usize, rate: usize, taps: u16, bytes: &[u8])
     requires { ⌜ (kind < 5) × (rate < 2) × (length (now bytes) ≡ blockBytes kind) ⌝ }
 {
+    let mut packed = [0u8; 520];
+    turbo::encode(kind, rate, taps, bytes, &mut packed);
     let mut out = [0u8; 4160];
-    turbo::encode(kind, rate, taps, bytes, &mut out);
+    bits::unpack(&packed, &mut out);
     to_text(&mut out);
     let n = turbo::kept_count(kind, rate);
     io::write_all(STDOUT_FILENO, &out[..n]);

@@ -2,7 +2,8 @@
 use mathlib.Core.Path.{_≡_, refl, ap, ap₂, _∙_}
 use Prim.Native.Nat.{ℕ, zero, suc, _+_, _-_, _*_, _/_, _%_, _^_, _<_}
 use native.Mathlib.Omega.{arith}
-use lib.Bits.{bitOr, or-self, or-shifted}
+use lib.Bits.{bitOr, or-comm, or-self, or-shifted}
+use Rattle.bits.proofs.RangeLaws.{agree, agree₂}
 use Rattle.words.specs.Words.{wordByte}
 
 -- what holds at 0, 1, 2 and 3 holds below 4
@@ -18,7 +19,7 @@ unfolding wordByte
 low-byte w e = omega arith
 
 -- the word of four bytes, the lowest first
-abbrev joined : ℕ → ℕ → ℕ → ℕ → ℕ
+abbrev pub joined : ℕ → ℕ → ℕ → ℕ → ℕ
 joined a b c d = a + b * 256 + c * 65536 + d * 16777216
 
 pub joined-byte : (f : ℕ → ℕ) (a b c d : ℕ) → a < 256 → b < 256 → c < 256 → d < 256 → a ≡ f 0 → b ≡ f 1 → c ≡ f 2 → d ≡ f 3
@@ -66,7 +67,7 @@ module _ (w : ℕ) (hw : w < 4294967296) where
   unfolding wordByte
   byte-lt k = omega arith
 
-  whole : w ≡ joined (wordByte w 0) (wordByte w 1) (wordByte w 2) (wordByte w 3)
+  pub whole : w ≡ joined (wordByte w 0) (wordByte w 1) (wordByte w 2) (wordByte w 3)
   unfolding wordByte
   whole =
       from-digits w (w / 256) (w / 65536) (w / 1 % 256) (w / 256 % 256) (w / 65536 % 256) (w / 16777216 % 256)
@@ -89,3 +90,14 @@ module _ (w : ℕ) (hw : w < 4294967296) where
     where
       turn : (t : ℕ) → rotated w t ≡ rotated (joined (wordByte w 0) (wordByte w 1) (wordByte w 2) (wordByte w 3)) t
       turn t = ap (λ (x : ℕ). rotated x t) whole
+
+  -- a word turned right, which is left by the rest of the four bytes
+  pub rotated-back-byte : (t : ℕ) → t < 4 → (b : ℕ) → b < 4
+      → wordByte (bitOr (w / 2 ^ (t * 8)) (w * 2 ^ ((32 - t * 8) % 32) % 4294967296)) b ≡ wordByte w ((b + t) % 4)
+  rotated-back-byte t h b l =
+      ap (λ (x : ℕ). wordByte x b)
+      (or-comm (w / 2 ^ (t * 8)) (w * 2 ^ ((32 - t * 8) % 32) % 4294967296)
+      ∙ ap₂ (λ (u d : ℕ). bitOr (w * 2 ^ u % 4294967296) (w / 2 ^ d))
+      (agree 4 (λ t. (32 - t * 8) % 32) (λ t. (4 - t) % 4 * 8) tt t h) (agree 4 (λ t. t * 8) (λ t. (32 - (4 - t) % 4 * 8) % 32) tt t h))
+      ∙ rotated-byte ((4 - t) % 4) (omega arith) b l
+      ∙ ap (wordByte w) (agree₂ 4 4 (λ t b. (b + (4 - (4 - t) % 4)) % 4) (λ t b. (b + t) % 4) tt t b h l)

@@ -50,3 +50,11 @@ pub fn turned(word: u32, turn: u32) -> u32
 {
     (word << (turn * 8)) | (word >> ((32 - turn * 8) % 32))
 }
+
+// A word whose bytes are turned back down so many places.
+pub fn turned_back(word: u32, turn: u32) -> u32
+    requires { ⌜ turn < 4 ⌝ }
+    ensures { λ r. ⌜ ((b : ℕ) → b < 4 → wordByte r b ≡ wordByte word ((b + turn) % 4)) ⌝ }
+{
+    (word >> (turn * 8)) | (word << ((32 - turn * 8) % 32))
+}

@@ -1,4 +1,4 @@
--- `fec::encode` meets its contract: each array has room for the source bits. Assumes nothing.
+-- `fec::encode` meets its contract: each array has room for the rows. Assumes nothing.
 use native.Mathlib.Omega.{arith}
 use Rattle.interleaver.proofs.InterleaverLaws.{coded-le}
 use Rattle.fec.proofs.CodingLaws.{frame-coded, short-coded}

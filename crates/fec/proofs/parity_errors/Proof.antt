@@ -1,53 +1,45 @@
--- `fec::parity_errors` meets its contract: each array has room for the parity. Assumes nothing.
+-- `fec::parity_errors` meets its contract. Assumes nothing.
+use mathlib.Core.Path.{refl, sym, _∙_}
 use native.Mathlib.Omega.{arith}
-use Rattle.fec.proofs.CodingLaws.{kept-most, frame-kept, short-kept}
 use borrow.Author.Needs.{needs}
+use Rattle.turbo.proofs.ParityLaws.{kept-binary}
+use Rattle.fec.proofs.CodingLaws.{kept-most}
+use Rattle.fec.proofs.RowLaws.{kept-bytes}
+use Rattle.fec.proofs.PartLaws.{holds, first-length, counted}
 use Rattle.fec.proofs.parity_errors.Statement.{statement}
 use Rattle.fec.proofs.parity_errors.Tie as tie
 
-slice-aggregate-count-errors : tie.Need-slice-aggregate-count-errors
-slice-aggregate-count-errors c = search needs
+encode-requires : tie.Need-encode-requires
+encode-requires c κs = search needs
 
-count-errors-requires : tie.Need-count-errors-requires
-count-errors-requires c κs =
-    let z = c .before .before .before .before in
-    (z .pre .0, z .pre .1, z .pre .2, frame-kept (z .args .kind) (z .args .rate) (z .pre .0) (omega arith))
+slice-reshare-prefix-disagreements : tie.Need-slice-reshare-prefix-disagreements
+slice-reshare-prefix-disagreements c = search needs
+
+slice-aggregate-disagreements : tie.Need-slice-aggregate-disagreements
+slice-aggregate-disagreements c = let z = c .before .before .before .before .before .before .before .before in z .pre .2 ∙ sym (first-length (z .pre .2) (holds _ _ _ _ (c .before .before .before .encode .ensures)))
+
+disagreements-requires : tie.Need-disagreements-requires
+disagreements-requires c κs =
+    let z = c .before .before .before .before .before .before .before .before in
+    let l = first-length (z .pre .2) (holds _ _ _ _ (c .before .before .before .encode .ensures)) in
+    (l ∙ sym (z .pre .2), omega (arith, l, kept-most (z .args .kind) (z .args .rate) (z .pre .0)))
+
+same-length : tie.Need-same-length
+same-length c = search needs
 
 returns : tie.Need-returns
-returns c = search needs
-
-slice-aggregate-count-errors-2 : tie.Need-slice-aggregate-count-errors-2
-slice-aggregate-count-errors-2 c = search needs
-
-count-errors-requires-2 : tie.Need-count-errors-requires-2
-count-errors-requires-2 c κs =
-    let z = c .before .before .before .before .before in
-    (z .pre .0, z .pre .1, z .pre .2, short-kept (z .args .kind) (z .args .rate) (z .pre .0) (omega arith))
-
-returns-2 : tie.Need-returns-2
-returns-2 c = search needs
-
-slice-aggregate-count-errors-3 : tie.Need-slice-aggregate-count-errors-3
-slice-aggregate-count-errors-3 c = search needs
-
-count-errors-requires-3 : tie.Need-count-errors-requires-3
-count-errors-requires-3 c κs =
-    let z = c .before .before .before .before .before in
-    (z .pre .0, z .pre .1, z .pre .2, kept-most (z .args .kind) (z .args .rate) (z .pre .0))
-
-returns-3 : tie.Need-returns-3
-returns-3 c = search needs
+returns c =
+    let z = c .before .before .before .before .before .before .before .before .before in
+    c .disagreements .ensures
+    ∙ counted _ _ _ _ _ (z .args .parity .now) (z .pre .2) (kept-bytes (z .args .kind) (z .args .rate) _ _ (z .pre .0) refl refl .1) (λ i h. kept-binary _ _ _ _ i) (holds _ _ _ _ (c .before .before .before .before .encode .ensures))
 
 pub parity-errors-spec : {M : Type 1} → statement M
 parity-errors-spec =
     tie.close
     (tie.spec
-    slice-aggregate-count-errors
-    count-errors-requires
-    returns
-    slice-aggregate-count-errors-2
-    count-errors-requires-2
-    returns-2
-    slice-aggregate-count-errors-3
-    count-errors-requires-3
-    returns-3)
+    encode-requires
+    slice-reshare-prefix-disagreements
+    slice-aggregate-disagreements
+    disagreements-requires
+    same-length
+    returns)

@@ -1,4 +1,4 @@
--- `fec::recover` meets its contract: an undecided bit refuses, and each array has room for the source bits. Assumes nothing.
+-- `fec::recover` meets its contract: an undecided bit refuses, and each array has room for the rows. Assumes nothing.
 use mathlib.Core.Path.{_≡_, sym, ap, _∙_}
 use mathlib.Core.List.{List}
 use Prim.Native.Nat.{ℕ, _≤_}
@@ -11,7 +11,7 @@ use Rattle.interleaver.proofs.InterleaverLaws.{coded-le}
 use Rattle.fec.specs.Recovery.{firstUndecided}
 use Rattle.fec.proofs.CodingLaws.{frame-coded, short-coded}
 use Rattle.fec.proofs.RecoveryLaws.{refused-majority}
-use Rattle.fec.proofs.BufferLaws.{decidedAt, first-is}
+use Rattle.fec.proofs.PartLaws.{decidedAt, first-is}
 use borrow.Author.Needs.{needs}
 use Rattle.fec.proofs.recover.Statement.{statement}
 use Rattle.fec.proofs.recover.Tie as tie

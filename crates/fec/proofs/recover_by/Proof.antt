@@ -1,110 +1,118 @@
--- `fec::recover_by` meets its contract: each return is a case of `recovered`, with all bits decided. Assumes nothing.
+-- `fec::recover_by` meets its contract. Assumes nothing.
 use mathlib.Core.Path.{_≡_, sym, ap, _∙_}
 use mathlib.Core.List.{List}
-use Prim.Native.Nat.{ℕ}
+use Prim.Native.Nat.{ℕ, _/_}
 use native.Mathlib.Omega.{arith}
+use borrow.Author.Needs.{needs}
 use Rattle.refusal.specs.Report.{Report, done, refused}
 use Rattle.refusal.specs.Outcome.{Outcome}
-use Rattle.fec.specs.Recovery.{disagreeing}
-use Rattle.fec.proofs.CodingLaws.{few-bytes}
+use Rattle.card.specs.Modes.{blockBytes}
+use Rattle.turbo.specs.Puncture.{keptCount}
+use Rattle.fec.specs.Recovery.{dataBit, parityBit, disagreeing}
+use Rattle.fec.proofs.CodingLaws.{few-bytes, kept-most}
 use Rattle.fec.proofs.RecoveryLaws.{refused-parity, recovered-good}
-use Rattle.fec.proofs.BufferLaws.{decidedAt, Deinterleaved, deinterleaved, data-le, decided-le, data-room, bits-binary, parity-length, Packed, packed, block-length, errors-are, block-put}
-use borrow.Author.Needs.{needs}
+use Rattle.fec.proofs.PartLaws.{decidedAt, none-undecided, decided-binary, Holds, holds, first-length, first-fits, errors-are, block-put}
 use Rattle.fec.proofs.recover_by.Statement.{statement}
 use Rattle.fec.proofs.recover_by.Tie as tie
 
--- the places at which a fact is found: the entry, the deinterleaved bits, and the packed block
-abbrev entry : tie.After-deinterleave → tie.Start
-entry c = c .before .before .before .before .before .before
+-- the function's entry, from the place where the parts are taken, and that place, from where the errors are counted
+abbrev entry : tie.After-take-apart → tie.Start
+entry c = c .before .before .before .before .before .before .before .before .before
 
-abbrev bits-at : tie.After-pack-bytes → tie.After-deinterleave
-bits-at c = c .before .before .before .before .before
+abbrev apart : tie.After-parity-errors → tie.After-take-apart
+apart c = c .before .before .before .before .before .before .before .before
 
-abbrev block-at : tie.After-parity-errors → tie.After-pack-bytes
-block-at c = c .before .before .before .before .before
+-- the numbers of bytes
+size-is : (c : tie.After-take-apart) → c .before .before .before .before .before .block-bytes .result ≡ blockBytes (entry c .args .kind)
+size-is c = c .before .before .before .before .before .block-bytes .ensures
 
--- what the source bits' buffer holds
-opened : (c : tie.After-deinterleave)
-    → Deinterleaved (entry c .args .kind) (entry c .args .rate) (entry c .args .decided .now) (c .deinterleave .last .1 .1 .1 .0) (c .before .before .block-bytes .result)
-opened c =
-    let z = entry c in
-    deinterleaved (z .args .kind) (z .args .rate) (c .before .before .block-bytes .result) (z .args .decided .now) _ (c .deinterleave .last .1 .1 .1 .0)
-    (z .pre .0 .0) (z .pre .0 .1) (z .pre .0 .2) (c .before .before .block-bytes .ensures) (z .pre .1 .0) (c .deinterleave .ensures)
+kept-is : (c : tie.After-take-apart) → c .before .before .before .before .kept-count .result / 8 ≡ keptCount (entry c .args .kind) (entry c .args .rate) / 8
+kept-is c = ap (λ (n : ℕ). n / 8) (c .before .before .before .before .kept-count .ensures)
 
--- and the block's buffer
-filled : (c : tie.After-pack-bytes)
-    → Packed (entry (bits-at c) .args .kind) (entry (bits-at c) .args .rate) (entry (bits-at c) .args .decided .now) (bits-at c .deinterleave .last .1 .1 .1 .0)
-    (c .pack-bytes .last .1 .1 .0) (bits-at c .before .before .block-bytes .result)
-filled c = let h = opened (bits-at c) in packed _ (c .pack-bytes .last .1 .1 .0) h (data-room h .2) (c .pack-bytes .ensures)
+-- what the buffers hold
+block-held : (c : tie.After-take-apart)
+    → Holds (blockBytes (entry c .args .kind)) (dataBit (entry c .args .kind) (entry c .args .rate) (decidedAt (entry c .args .decided .now))) (c .take-apart .last .1 .1 .1 .1 .0)
+block-held c = holds _ _ _ _ (c .take-apart .ensures .0)
+
+parity-held : (c : tie.After-take-apart)
+    → Holds (keptCount (entry c .args .kind) (entry c .args .rate) / 8) (parityBit (entry c .args .kind) (entry c .args .rate) (decidedAt (entry c .args .decided .now))) (c .take-apart .last .1 .1 .1 .1 .1 .0)
+parity-held c = holds _ _ _ _ (c .take-apart .ensures .1)
 
 -- the count that the code compares with 0 is the one of the definition
 errors : (c : tie.After-parity-errors)
-    → let z = entry (bits-at (block-at c)) in
+    → let z = entry (apart c) in
     c .parity-errors .result ≡ disagreeing (z .args .kind) (z .args .rate) (z .args .taps) (decidedAt (z .args .decided .now))
-errors c = c .parity-errors .ensures ∙ errors-are (filled (block-at c)) _
+errors c =
+    let a = apart c in
+    let z = entry a in
+    c .parity-errors .ensures
+    ∙ errors-are (z .args .kind) (z .args .rate) (z .pre .0 .0) _ (decided-binary _ _ _ (z .pre .0 .1) (z .pre .0 .2)) (size-is a) (kept-is a)
+    (block-held a) (parity-held a) (z .args .taps)
 
 block-bytes-requires : tie.Need-block-bytes-requires
 block-bytes-requires c κs = search needs
 
-mul-data : tie.Need-mul-data
-mul-data c =
-    let z = c .before .before .before .before in
-    omega (arith, c .block-bytes .ensures, few-bytes (z .args .kind) (z .pre .0 .0 .kind-lt))
+kept-count-requires : tie.Need-kept-count-requires
+kept-count-requires c κs = search needs
 
-deinterleave-requires : tie.Need-deinterleave-requires
-deinterleave-requires c κs = search needs
+slice-aggregate-take-apart : tie.Need-slice-aggregate-take-apart
+slice-aggregate-take-apart c = search needs
 
-slice-aggregate-pack-bytes : tie.Need-slice-aggregate-pack-bytes
-slice-aggregate-pack-bytes c = search needs
+slice-aggregate-take-apart-2 : tie.Need-slice-aggregate-take-apart-2
+slice-aggregate-take-apart-2 c = search needs
 
-pack-bytes-requires : tie.Need-pack-bytes-requires
-pack-bytes-requires c κs = let h = opened (c .before .before .before .before) in (data-room h, bits-binary h)
+take-apart-requires : tie.Need-take-apart-requires
+take-apart-requires c κs =
+    let z = c .before .before .before .before .before .before .before .before in
+    (z .pre .0, (z .pre .1 .0, omega (arith, few-bytes (z .args .kind) (z .pre .0 .0 .kind-lt)), omega (arith, kept-most (z .args .kind) (z .args .rate) (z .pre .0 .0))))
 
 array-share-prefix-block : tie.Need-array-share-prefix-block
-array-share-prefix-block c = filled (c .before) .room
+array-share-prefix-block c = first-fits (size-is (c .before .before .before .before)) (block-held (c .before .before .before .before))
 
 slice-aggregate-parity-errors : tie.Need-slice-aggregate-parity-errors
-slice-aggregate-parity-errors c = sym (block-length (filled (c .before .before)))
+slice-aggregate-parity-errors c = size-is (c .before .before .before .before .before) ∙ sym (first-length (size-is (c .before .before .before .before .before)) (block-held (c .before .before .before .before .before)))
 
-sub-parity-errors : tie.Need-sub-parity-errors
-sub-parity-errors c = data-le (filled (c .before .before) .source)
+array-share-prefix-parity : tie.Need-array-share-prefix-parity
+array-share-prefix-parity c = first-fits (kept-is (c .before .before .before .before .before)) (parity-held (c .before .before .before .before .before))
 
-part-parity-errors-start : tie.Need-part-parity-errors-start
-part-parity-errors-start c = data-le (filled (c .before .before .before) .source)
+slice-aggregate-parity-errors-2 : tie.Need-slice-aggregate-parity-errors-2
+slice-aggregate-parity-errors-2 c = kept-is (c .before .before .before .before .before .before) ∙ sym (first-length (kept-is (c .before .before .before .before .before .before)) (parity-held (c .before .before .before .before .before .before)))
 
-part-parity-errors-end : tie.Need-part-parity-errors-end
-part-parity-errors-end c = decided-le (filled (c .before .before .before) .source)
+slice-aggregate-parity-errors-3 : tie.Need-slice-aggregate-parity-errors-3
+slice-aggregate-parity-errors-3 c = search needs
 
 parity-errors-requires : tie.Need-parity-errors-requires
 parity-errors-requires c κs =
-    let p = filled (c .before .before .before .before) in
-    (p .source .defined, block-length p ∙ p .source .size-is, parity-length (p .source))
+    let a = c .before .before .before .before .before .before .before in
+    let z = entry a in (
+      z .pre .0 .0,
+      first-length (size-is a) (block-held a),
+      first-length (kept-is a) (parity-held a),
+      omega (arith, kept-most (z .args .kind) (z .args .rate) (z .pre .0 .0)),
+    )
 
 same-length : tie.Need-same-length
 same-length c = search needs
 
 returns : tie.Need-returns
 returns c =
-    let e = errors (c .before) in
-    let d = bits-at (block-at (c .before)) in
-    let z = entry d in
+    let o = c .before .before in
+    let z = entry (apart o) in
+    let e = errors o in
     let law =
     refused-parity (z .args .kind) (z .args .rate) (z .args .taps) (decidedAt (z .args .decided .now)) (z .args .out .now)
-    (filled (block-at (c .before)) .source .all) (omega (arith, e, c .if1 .taken)) in (
-      ap (λ (n : ℕ). refused 8 n 0) e ∙ ap (λ (o : Outcome ℕ (List ℕ)). o .report) (sym law),
-      (ap (λ (o : Outcome ℕ (List ℕ)). o .out) (sym law), d .deinterleave .ensures),
-    )
+    (none-undecided _ _ _ (z .pre .0 .1) (z .pre .0 .2)) (omega (arith, e, c .if1 .taken)) in
+    (ap (λ (n : ℕ). refused 8 n 0) e ∙ ap (λ (q : Outcome ℕ (List ℕ)). q .report) (sym law), ap (λ (q : Outcome ℕ (List ℕ)). q .out) (sym law))
 
 array-share-prefix-block-2 : tie.Need-array-share-prefix-block-2
-array-share-prefix-block-2 c = filled (block-at (c .before)) .room
+array-share-prefix-block-2 c = first-fits (size-is (c .before .before .before .before .before .before .before .before .before .before)) (block-held (c .before .before .before .before .before .before .before .before .before .before))
 
 slice-aggregate-put : tie.Need-slice-aggregate-put
-slice-aggregate-put c = sym (block-length (filled (block-at (c .before .before))))
+slice-aggregate-put c = size-is (c .before .before .before .before .before .before .before .before .before .before .before) ∙ sym (first-length (size-is (c .before .before .before .before .before .before .before .before .before .before .before)) (block-held (c .before .before .before .before .before .before .before .before .before .before .before)))
 
 put-requires : tie.Need-put-requires
 put-requires c κs =
-    let p = block-at (c .before .before .before) in
-    omega (arith, block-length (filled p), filled p .source .size-is, entry (bits-at p) .pre .1 .1)
+    let a = c .before .before .before .before .before .before .before .before .before .before .before .before in omega (arith, first-length (size-is a) (block-held a), entry a .pre .1 .1)
 
 same-length-2 : tie.Need-same-length-2
 same-length-2 c = search needs
@@ -114,18 +122,16 @@ same-length-3 c = search needs
 
 returns-2 : tie.Need-returns-2
 returns-2 c =
-    let o = c .before .before .before .before .before in
-    let p = filled (block-at (o .before)) in
-    let d = bits-at (block-at (o .before)) in
-    let z = entry d in
+    let o = c .before .before .before .before .before .before .before in
+    let a = apart o in
+    let z = entry a in
     let law =
-    recovered-good (z .args .kind) (z .args .rate) (z .args .taps) (decidedAt (z .args .decided .now)) (z .args .out .now) (p .source .all)
-    (omega (arith, errors (o .before), o .if1 .left)) in (
-      ap {B = Report ℕ} done (p .source .size-is) ∙ ap (λ (q : Outcome ℕ (List ℕ)). q .report) (sym law),
-      (
-        c .before .before .put .ensures ∙ block-put p (z .args .out .now) ∙ ap (λ (q : Outcome ℕ (List ℕ)). q .out) (sym law),
-        d .deinterleave .ensures,
-      ),
+    recovered-good (z .args .kind) (z .args .rate) (z .args .taps) (decidedAt (z .args .decided .now)) (z .args .out .now)
+    (none-undecided _ _ _ (z .pre .0 .1) (z .pre .0 .2)) (omega (arith, errors o, c .before .before .before .before .before .if1 .left)) in (
+      ap {B = Report ℕ} done (size-is a) ∙ ap (λ (q : Outcome ℕ (List ℕ)). q .report) (sym law),
+      c .before .before .put .ensures
+          ∙ block-put (z .args .kind) (z .args .rate) (z .pre .0 .0) _ (decided-binary _ _ _ (z .pre .0 .1) (z .pre .0 .2)) (size-is a) (kept-is a) (block-held a) (parity-held a) (z .args .out .now)
+          ∙ ap (λ (q : Outcome ℕ (List ℕ)). q .out) (sym law),
     )
 
 pub recover-by-spec : {M : Type 1} → statement M
@@ -133,15 +139,15 @@ recover-by-spec =
     tie.close
     (tie.spec
     block-bytes-requires
-    mul-data
-    deinterleave-requires
-    slice-aggregate-pack-bytes
-    pack-bytes-requires
+    kept-count-requires
+    slice-aggregate-take-apart
+    slice-aggregate-take-apart-2
+    take-apart-requires
     array-share-prefix-block
     slice-aggregate-parity-errors
-    sub-parity-errors
-    part-parity-errors-start
-    part-parity-errors-end
+    array-share-prefix-parity
+    slice-aggregate-parity-errors-2
+    slice-aggregate-parity-errors-3
     parity-errors-requires
     same-length
     returns

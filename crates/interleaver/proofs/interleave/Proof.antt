@@ -2,7 +2,8 @@
 use mathlib.Core.Path.{_∙_}
 use denote.Ref.{now}
 use lib.ListN.{getD}
-use Rattle.interleaver.specs.Source.{codedBits, source}
+use Rattle.interleaver.specs.Source.{codedBits}
+use Rattle.interleaver.specs.RowOrder.{rowPlace}
 use Rattle.words.proofs.StoreLaws.{stored-written}
 use borrow.Author.Needs.{needs}
 use Rattle.interleaver.proofs.interleave.Statement.{statement}
@@ -18,7 +19,7 @@ returns : tie.Need-returns
 returns c =
     let s = c .before .before .before .before .before .before in
     c .before .before .move-bits .ensures
-    ∙ stored-written (codedBits (s .args .kind) (s .args .rate)) (λ i. getD (now (s .args .bits)) (source (s .args .kind) (s .args .rate) i) 0)
+    ∙ stored-written (codedBits (s .args .kind) (s .args .rate)) (λ i. getD (now (s .args .rows)) (rowPlace (s .args .kind) (s .args .rate) i) 0)
     (now (s .args .out)) (s .pre .2)
 
 pub interleave-spec : {M : Type 1} → statement M

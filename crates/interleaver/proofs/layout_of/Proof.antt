@@ -1,21 +1,17 @@
 -- `interleaver::layout_of` meets its contract. Assumes nothing.
 use mathlib.Core.Path.{_≡_, ap, subst, sym}
-use Prim.Native.Nat.{_+_, _*_, _/_}
-use native.Mathlib.Omega.{arith}
+use Prim.Native.Nat.{_+_, _/_}
 use lib.Dec.{eqb}
 use lib.ListN.{getD}
 use Rattle.interleaver.specs.declared.Layout.{Layout}
 use Rattle.interleaver.specs.Layouts.{Sound, Small, Near, Paired, layoutOf, offsets, steps, groups, leads}
-use Rattle.interleaver.proofs.LayoutLaws.{group-in, rows-in, sound-of, small-of, near-of, paired-of}
+use Rattle.interleaver.proofs.LayoutLaws.{group-in, sound-of, small-of, near-of, paired-of}
 use borrow.Author.Needs.{needs}
 use Rattle.interleaver.proofs.layout_of.Statement.{statement}
 use Rattle.interleaver.proofs.layout_of.Tie as tie
 
-block-bytes-requires : tie.Need-block-bytes-requires
-block-bytes-requires c κs = search needs
-
-mul-rows : tie.Need-mul-rows
-mul-rows c = omega (arith, c .block-bytes .ensures, rows-in (c .before .args .kind) (c .before .args .rate) (c .before .pre))
+data-rows-requires : tie.Need-data-rows-requires
+data-rows-requires c κs = search needs
 
 mul-group : tie.Need-mul-group
 mul-group c = search needs
@@ -23,8 +19,8 @@ mul-group c = search needs
 array-read-group : tie.Need-array-read-group
 array-read-group c = search needs
 
-div-t5 : tie.Need-div-t5
-div-t5 c = group-in (c .before .args .kind) (c .before .args .rate) (c .before .pre)
+div-t6 : tie.Need-div-t6
+div-t6 c = group-in (c .before .args .kind) (c .before .args .rate) (c .before .pre)
 
 add-t9 : tie.Need-add-t9
 add-t9 c = search needs
@@ -55,17 +51,17 @@ returns c =
     let kind = c .before .args .kind in
     let rate = c .before .args .rate in
     let e : _≡_ {A = Layout} _ (layoutOf kind rate) =
-    ap (λ bytes.
+    ap (λ rows.
     record {
-      rows = bytes * 2;
-      parity = bytes * 2 / getD groups rate 0;
+      rows = rows;
+      parity = rows / getD groups rate 0;
       step = getD steps (kind + rate) 0;
       offset = getD offsets (kind + rate) 0;
       group = getD groups rate 0;
       lead = getD leads rate 0;
       continuous = eqb rate 1;
     })
-    (c .block-bytes .ensures) in
+    (c .data-rows .ensures) in
     let d = c .before .pre in (
       e,
       subst Sound (sym e) (sound-of kind rate d),
@@ -78,11 +74,10 @@ pub layout-of-spec : {M : Type 1} → statement M
 layout-of-spec =
     tie.close
     (tie.spec
-    block-bytes-requires
-    mul-rows
+    data-rows-requires
     mul-group
     array-read-group
-    div-t5
+    div-t6
     add-t9
     mul-t11
     array-read-t14

@@ -9,10 +9,11 @@ use denote.Ref.{now}
 use lib.ListN.{length}
 use Rattle.bits.proofs.NumberLaws.{lt-cases}
 use Rattle.interleaver.specs.Rows.{passRow}
-use Rattle.interleaver.specs.Source.{dataPlace, isParity, nibbleBit, codedOf}
+use Rattle.interleaver.specs.Source.{dataPlace, isParity, codedOf}
+use Rattle.interleaver.specs.RowOrder.{rowOf}
 use Rattle.interleaver.specs.Stores.{carried}
 use Rattle.interleaver.specs.Walks.{OnPass, parityPlace, untilParity}
-use Rattle.interleaver.proofs.SourceLaws.{bit-data}
+use Rattle.interleaver.proofs.RowLaws.{row-data}
 use Rattle.interleaver.proofs.WalkLaws.{pass-on, row-at}
 use Rattle.interleaver.proofs.StreamLaws.{data-step, data-due, stream-on}
 use Rattle.interleaver.proofs.NibbleLaws.{carried-none, carried-join, carried-one}
@@ -62,13 +63,16 @@ loop-holds c =
       carried-none (s .args .l) (s .args .back) (now (s .args .from)) (s .args .start .nibble) (now (s .args .to)),
     )
 
+mul-move-nibble : tie.Need-mul-move-nibble Inv-loop μ-loop
+mul-move-nibble c = omega (arith, next c .4, entry c .pre .1)
+
 move-nibble-requires : tie.Need-move-nibble-requires Inv-loop μ-loop
 move-nibble-requires c κs =
     let t = c .before in
     let s = entry t in
     let (some, is, at, n, row) = next t in
     let room : codedOf (s .args .l) ≤ length (t .before .loop .to) = omega (arith, s .pre .8, t .before .loop .inv .6) in
-    (omega arith, omega (arith, s .pre .7), omega arith, omega (arith, s .pre .7), omega arith)
+    (omega (arith, s .pre .7), omega arith, omega (arith, s .pre .7), omega arith)
 
 add-nibble : tie.Need-add-nibble Inv-loop μ-loop
 add-nibble c =
@@ -97,7 +101,7 @@ loop-again c =
     let from = now (s .args .from) in
     let (some, is, at, within, below) = next t in
     let (place, parity, left) = data-step l (s .pre .0) n is in
-    let bits : (k : ℕ) → k * l .rows + i .row ≡ nibbleBit l n k = λ k. omega (arith, at, bit-data l (s .pre .0) n k is) in
+    let row : i .row ≡ rowOf l n = omega (arith, at, row-data l n is) in
     let on : dataPlace l n + 1 ≡ dataPlace l (n + 1) = omega arith in
     let down : untilParity l (n + 1) + 1 ≡ u = omega arith in (
       omega (arith, i .inv .0),
@@ -106,9 +110,9 @@ loop-again c =
       omega (arith, i .inv .3, add-mul (untilParity l (n + 1)) 1 (l .step), ap (λ (y : ℕ). y * l .step) down),
       parity ∙ i .inv .4,
       omega (arith, i .inv .5, down),
-      x .move-nibble .kept .1 .1 .1 .1 .1 .0 ∙ i .inv .6,
+      x .move-nibble .kept .1 .1 .1 .1 .0 ∙ i .inv .6,
       carried-join l (s .args .back) from (s .args .start .nibble) n (n + 1) (now (s .args .to)) _ _ (i .inv .0) (omega arith) (i .inv .7)
-          (carried-one l (s .args .back) from n (i .row) (l .rows) _ _ bits (x .move-nibble .ensures)),
+          (carried-one l (s .args .back) from n (i .row) _ _ row (x .move-nibble .ensures)),
     )
 
 same-length : tie.Need-same-length Inv-loop μ-loop
@@ -126,6 +130,7 @@ move-data-spec =
     Inv-loop
     μ-loop
     loop-holds
+    mul-move-nibble
     move-nibble-requires
     add-nibble
     add-row

@@ -14,11 +14,8 @@ mul-gather c = search needs
 gather-requires : tie.Need-gather-requires
 gather-requires c κs = search needs
 
-sub-turned : tie.Need-sub-turned
-sub-turned c = search needs
-
-turned-requires : tie.Need-turned-requires
-turned-requires c κs = search needs
+turned-back-requires : tie.Need-turned-back-requires
+turned-back-requires c κs = search needs
 
 scatter-requires : tie.Need-scatter-requires
 scatter-requires c κs = search needs
@@ -26,8 +23,8 @@ scatter-requires c κs = search needs
 gather-requires-2 : tie.Need-gather-requires-2
 gather-requires-2 c κs = search needs
 
-turned-requires-2 : tie.Need-turned-requires-2
-turned-requires-2 c κs = search needs
+turned-requires : tie.Need-turned-requires
+turned-requires c κs = search needs
 
 mul-scatter : tie.Need-mul-scatter
 mul-scatter c = search needs
@@ -42,9 +39,9 @@ returns : tie.Need-returns
 returns c =
     let s = c .before .before .before .before .before .before .before .before .before in
     let word = c .before .before .before .before .before .gather in
-    let x = c .before .before .before .before .turned in
-    nibble-back (s .args .n) (s .args .first) (s .args .height) (s .args .back) (now (s .args .from)) (now (s .args .to)) _ (word .result) (x .result)
-    (c .before .before .before .before .before .before .if1 .taken) (s .pre .0) (s .pre .4) (word .ensures) (x .ensures) (c .before .before .scatter .ensures)
+    let x = c .before .before .before .before .turned-back in
+    nibble-back (s .args .n) (s .args .first) (s .args .back) (now (s .args .from)) (now (s .args .to)) _ (word .result) (x .result)
+    (c .before .before .before .before .before .before .if1 .taken) (s .pre .3) (word .ensures) (x .ensures) (c .before .before .scatter .ensures)
 
 same-length-2 : tie.Need-same-length-2
 same-length-2 c = search needs
@@ -53,8 +50,8 @@ returns-2 : tie.Need-returns-2
 returns-2 c =
     let s = c .before .before .before .before .before .before .before .before .before in
     let word = c .before .before .before .before .before .gather2 in
-    let x = c .before .before .before .before .turned2 in
-    nibble-out (s .args .n) (s .args .first) (s .args .height) (s .args .back) (now (s .args .from)) (now (s .args .to)) _ (word .result) (x .result)
+    let x = c .before .before .before .before .turned in
+    nibble-out (s .args .n) (s .args .first) (s .args .back) (now (s .args .from)) (now (s .args .to)) _ (word .result) (x .result)
     (c .before .before .before .before .before .before .if1 .left) (word .ensures) (x .ensures) (c .before .before .scatter2 .ensures)
 
 pub move-nibble-spec : {M : Type 1} → statement M
@@ -64,11 +61,10 @@ move-nibble-spec =
     cast-turn
     mul-gather
     gather-requires
-    sub-turned
-    turned-requires
+    turned-back-requires
     scatter-requires
     gather-requires-2
-    turned-requires-2
+    turned-requires
     mul-scatter
     scatter-requires-2
     same-length

@@ -13,32 +13,23 @@ use Rattle.interleaver.proofs.move_pairs.Statement.{statement}
 use Rattle.interleaver.proofs.move_pairs.Tie as tie
 
 abbrev Inv-loop : tie.InvT-loop
-Inv-loop l back from to₀ bend before after nibble₀ pass₀ to nibble pass =
+Inv-loop l back from to₀ bend before nibble₀ pass₀ to nibble pass =
     (pass ≤ l .step) × (nibble ≡ length (passes (l .rows) (l .step) pass) * 2) × (length to ≡ length to₀) × (to ≡ carried l back from 0 nibble to₀)
 
 abbrev μ-loop : tie.MeasureT-loop
-μ-loop l back from to₀ bend before after nibble₀ pass₀ to nibble pass = l .step - pass
+μ-loop l back from to₀ bend before nibble₀ pass₀ to nibble pass = l .step - pass
 
 sub-bend : tie.Need-sub-bend Inv-loop μ-loop
 sub-bend c =
     let s = c .before .before .before in
     omega (arith, s .pre .2 .offset-lt, parity-is (s .args .l) (s .pre .0) (s .pre .3))
 
-mul-before : tie.Need-mul-before Inv-loop μ-loop
-mul-before c = omega (arith, c .before .before .before .before .pre .1)
-
 add-before : tie.Need-add-before Inv-loop μ-loop
-add-before c = omega (arith, c .before .before .before .before .before .pre .1)
-
-mul-after : tie.Need-mul-after Inv-loop μ-loop
-mul-after c = omega (arith, c .before .before .before .before .before .before .pre .1)
-
-add-after : tie.Need-add-after Inv-loop μ-loop
-add-after c = omega (arith, c .before .before .before .before .before .before .before .pre .1)
+add-before c = omega (arith, c .before .before .before .before .pre .1)
 
 loop-holds : tie.Need-loop-holds Inv-loop μ-loop
 loop-holds c =
-    let s = c .before .before .before .before .before .before .before in
+    let s = c .before .before .before .before in
     let l = s .args .l in (
       omega arith,
       ap (λ (k : ℕ). k * 2) (passes-none (l .rows) (l .step) (s .pre .0 .step-pos)),
@@ -47,7 +38,7 @@ loop-holds c =
     )
 
 abbrev entry : tie.Then1 Inv-loop μ-loop → tie.Start Inv-loop μ-loop
-entry c = c .before .before .before .before .before .before .before .before .before .before
+entry c = c .before .before .before .before .before .before .before
 
 move-run-requires : tie.Need-move-run-requires Inv-loop μ-loop
 move-run-requires c κs =
@@ -126,7 +117,7 @@ same-length c = c .before .before .loop .inv .2
 
 returns : tie.Need-returns Inv-loop μ-loop
 returns c =
-    let s = c .before .before .before .before .before .before .before .before .before .before in
+    let s = c .before .before .before .before .before .before .before in
     let l = s .args .l in
     let i = c .before .before .loop in
     let e : i .pass ≡ l .step = omega (arith, i .inv .0, c .if1 .left) in
@@ -142,10 +133,7 @@ move-pairs-spec =
     Inv-loop
     μ-loop
     sub-bend
-    mul-before
     add-before
-    mul-after
-    add-after
     loop-holds
     move-run-requires
     move-run-requires-2

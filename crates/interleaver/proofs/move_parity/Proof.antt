@@ -1,13 +1,15 @@
 -- `interleaver::move_parity` meets its contract. Assumes nothing.
 use mathlib.Core.Path.{_≡_, sym, ap, _∙_}
 use mathlib.Core.Bool.{true, false}
-use Prim.Native.Nat.{ℕ, _+_, _*_, _<_}
+use Prim.Native.Nat.{_+_, _<_}
 use native.Mathlib.Omega.{arith}
 use denote.Ref.{now}
 use Rattle.interleaver.specs.Rows.{movedRow}
-use Rattle.interleaver.specs.Source.{parityRow, groupOf, isParity, nibbleBit}
+use Rattle.interleaver.specs.Source.{parityRow, groupOf, isParity}
+use Rattle.interleaver.specs.RowOrder.{rowOf}
 use Rattle.interleaver.specs.Walks.{parityPlace}
-use Rattle.interleaver.proofs.SourceLaws.{group-lt, bit-parity, row-continuous, parity-permutes}
+use Rattle.interleaver.proofs.SourceLaws.{row-continuous, parity-row-lt}
+use Rattle.interleaver.proofs.RowLaws.{row-parity}
 use Rattle.interleaver.proofs.WalkLaws.{continuous-next}
 use Rattle.interleaver.proofs.StreamLaws.{parity-step, parity-due, data-due, parity-group}
 use Rattle.interleaver.proofs.NibbleLaws.{carried-none, carried-one}
@@ -30,7 +32,7 @@ due c =
     let t : isParity l n ≡ true = parity-due l (s .pre .0) n (omega (arith, s .pre .4 .left-is)) in
     let e =
     s .pre .4 .row-is ∙ sym (row-continuous l (parityPlace l n) (s .pre .3)) ∙ ap (parityRow l) (parity-group l (s .pre .0) n t) in
-    (t, e, omega (arith, e, parity-permutes l (s .pre .0) .below (groupOf l n) (group-lt l (s .pre .0) n (s .pre .5))))
+    (t, e, omega (arith, e, parity-row-lt l (s .pre .0) n (s .pre .5)))
 
 returns : tie.Need-returns
 returns c =
@@ -40,18 +42,18 @@ returns c =
     data-due (s .args .l) (s .pre .0) (at .nibble) (omega (arith, s .pre .4 .left-is)) in
     ((rw t (omega arith), s .pre .4, c .if1 .taken), carried-none (s .args .l) (s .args .back) (now (s .args .from)) (at .nibble) (now (s .args .to)))
 
-mul-move-nibble : tie.Need-mul-move-nibble
-mul-move-nibble c = search needs
-
 add-move-nibble : tie.Need-add-move-nibble
 add-move-nibble c = omega (arith, due (c .before .before), entry (c .before .before) .pre .1)
+
+mul-move-nibble : tie.Need-mul-move-nibble
+mul-move-nibble c = omega (arith, due (c .before .before), entry (c .before .before) .pre .1)
 
 move-nibble-requires : tie.Need-move-nibble-requires
 move-nibble-requires c κs =
     let d = c .before .before .before in
     let s = entry d in
     let row = due d .2 in
-    (omega arith, omega (arith, s .pre .5, s .pre .6), omega (arith, s .pre .5, s .pre .7), omega (arith, s .pre .6), omega (arith, s .pre .7))
+    (omega (arith, s .pre .5, s .pre .6), omega (arith, s .pre .5, s .pre .7), omega (arith, s .pre .6), omega (arith, s .pre .7))
 
 add-t8 : tie.Need-add-t8
 add-t8 c = search needs
@@ -73,8 +75,7 @@ returns-2 c =
     let n = at .nibble in
     let (t, row, below) = due d in
     let (places, rows, left) = parity-step l (s .pre .0) n t in
-    let bits : (k : ℕ) → k * l .parity + (l .rows * 4 + at .row) ≡ nibbleBit l n k =
-    λ k. omega (arith, row, bit-parity l (s .pre .0) n k t) in (
+    let e : l .rows + at .row ≡ rowOf l n = omega (arith, row, row-parity l n t) in (
       (
         rw t,
         record {
@@ -86,7 +87,7 @@ returns-2 c =
         },
         s .pre .0 .group-pos,
       ),
-      carried-one l (s .args .back) (now (s .args .from)) n (l .rows * 4 + at .row) (l .parity) (now (s .args .to)) _ bits
+      carried-one l (s .args .back) (now (s .args .from)) n (l .rows + at .row) (now (s .args .to)) _ e
           (c .before .before .before .before .move-nibble .ensures),
     )
 
@@ -95,8 +96,8 @@ move-parity-spec =
     tie.close
     (tie.spec
     returns
-    mul-move-nibble
     add-move-nibble
+    mul-move-nibble
     move-nibble-requires
     add-t8
     moved-row-requires

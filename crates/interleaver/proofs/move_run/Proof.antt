@@ -5,7 +5,8 @@ use Prim.Native.Nat.{ℕ, _+_, _-_, _*_, _<_, _≤_}
 use native.Mathlib.Omega.{arith}
 use denote.Ref.{now}
 use lib.ListN.{length}
-use Rattle.interleaver.specs.Source.{nibbleBit, codedOf}
+use Rattle.interleaver.specs.Source.{codedOf}
+use Rattle.interleaver.specs.RowOrder.{rowOf}
 use Rattle.interleaver.specs.Stores.{carried}
 use Rattle.interleaver.specs.Walks.{Runs}
 use Rattle.interleaver.proofs.WalkLaws.{pass-on}
@@ -35,7 +36,7 @@ next c =
 
 within : (c : tie.In-loop Inv-loop μ-loop)
     → (codedOf (entry c .args .l) ≡ entry c .args .l .rows * 8) × (c .before .loop .nibble + 1 < entry c .args .l .rows * 2)
-    × (c .before .loop .row < entry c .args .l .rows) × (entry c .args .apart + c .before .loop .row < entry c .args .l .rows * 5)
+    × (c .before .loop .row < entry c .args .l .rows) × (entry c .args .apart + c .before .loop .row < entry c .args .l .rows * 2)
 within c =
     let s = entry c in
     let i = c .before .loop in
@@ -56,13 +57,16 @@ loop-holds c =
       carried-none (s .args .l) (s .args .back) (now (s .args .from)) (s .args .start .nibble) (now (s .args .to)),
     )
 
+mul-move-nibble : tie.Need-mul-move-nibble Inv-loop μ-loop
+mul-move-nibble c = omega (arith, within c .2, entry c .pre .1)
+
 move-nibble-requires : tie.Need-move-nibble-requires Inv-loop μ-loop
 move-nibble-requires c κs =
     let t = c .before in
     let s = entry t in
     let (coded, n, row, first) = within t in
     let room : codedOf (s .args .l) ≤ length (t .before .loop .to) = omega (arith, s .pre .7, t .before .loop .inv .3) in
-    (omega arith, omega (arith, s .pre .6), omega arith, omega (arith, s .pre .6), omega arith)
+    (omega (arith, s .pre .6), omega arith, omega (arith, s .pre .6), omega arith)
 
 add-move-nibble : tie.Need-add-move-nibble Inv-loop μ-loop
 add-move-nibble c =
@@ -74,15 +78,20 @@ add-move-nibble-2 c =
     let t = c .before .before .before .before in
     omega (arith, within t .3, entry t .pre .1)
 
+mul-move-nibble-2 : tie.Need-mul-move-nibble-2 Inv-loop μ-loop
+mul-move-nibble-2 c =
+    let t = c .before .before .before .before in
+    omega (arith, within t .3, entry t .pre .1)
+
 move-nibble-requires-2 : tie.Need-move-nibble-requires-2 Inv-loop μ-loop
 move-nibble-requires-2 c κs =
     let m = c .before .before .before in
     let t = m .before .before in
     let s = entry t in
     let (coded, n, row, first) = within t in
-    let room : codedOf (s .args .l) ≤ length (m .move-nibble .last .1 .1 .1 .1 .1 .0) =
-    omega (arith, s .pre .7, t .before .loop .inv .3, m .move-nibble .kept .1 .1 .1 .1 .1 .0) in
-    (omega arith, omega (arith, s .pre .6), omega arith, omega (arith, s .pre .6), omega arith)
+    let room : codedOf (s .args .l) ≤ length (m .move-nibble .last .1 .1 .1 .1 .0) =
+    omega (arith, s .pre .7, t .before .loop .inv .3, m .move-nibble .kept .1 .1 .1 .1 .0) in
+    (omega (arith, s .pre .6), omega arith, omega (arith, s .pre .6), omega arith)
 
 add-nibble : tie.Need-add-nibble Inv-loop μ-loop
 add-nibble c =
@@ -113,10 +122,9 @@ loop-again c =
     let two : n + 1 + 1 ≡ n + 2 = omega arith in
     let from = now (s .args .from) in
     let (first, second, below, moved) = next t in
-    let parity = second (s .args .apart + i .row) (s .pre .5 (i .row) (i .inv .2) (t .loop-test .taken)) in
-    let data-bits : (k : ℕ) → k * l .rows + i .row ≡ nibbleBit l n k = λ k. first k ∙ ap (λ (m : ℕ). nibbleBit l m k) (sym e) in
-    let parity-bits : (k : ℕ) → k * l .rows + (s .args .apart + i .row) ≡ nibbleBit l (n + 1) k =
-    λ k. parity k ∙ ap (λ (m : ℕ). nibbleBit l (m + 1) k) (sym e) in (
+    let row : i .row ≡ rowOf l n = first ∙ ap (rowOf l) (sym e) in
+    let parity : s .args .apart + i .row ≡ rowOf l (n + 1) =
+    s .pre .5 (i .row) (i .inv .2) (t .loop-test .taken) ∙ second ∙ ap (λ (m : ℕ). rowOf l (m + 1)) (sym e) in (
       record {
         place = p + 1;
         nibble-is = omega (arith, e);
@@ -125,11 +133,11 @@ loop-again c =
       },
       omega (arith, i .inv .1),
       omega (arith, i .inv .2),
-      y .move-nibble2 .kept .1 .1 .1 .1 .1 .0 ∙ x .move-nibble .kept .1 .1 .1 .1 .1 .0 ∙ i .inv .3,
+      y .move-nibble2 .kept .1 .1 .1 .1 .0 ∙ x .move-nibble .kept .1 .1 .1 .1 .0 ∙ i .inv .3,
       carried-join l (s .args .back) from (s .args .start .nibble) (n + 1) (n + 2) (now (s .args .to)) _ _ (omega (arith, i .inv .1)) (omega arith)
           (carried-join l (s .args .back) from (s .args .start .nibble) n (n + 1) (now (s .args .to)) _ _ (i .inv .1) (omega arith) (i .inv .4)
-          (carried-one l (s .args .back) from n (i .row) (l .rows) _ _ data-bits (x .move-nibble .ensures)))
-          (rw two at (carried-one l (s .args .back) from (n + 1) (s .args .apart + i .row) (l .rows) _ _ parity-bits (y .move-nibble2 .ensures))),
+          (carried-one l (s .args .back) from n (i .row) _ _ row (x .move-nibble .ensures)))
+          (rw two at (carried-one l (s .args .back) from (n + 1) (s .args .apart + i .row) _ _ parity (y .move-nibble2 .ensures))),
     )
 
 same-length : tie.Need-same-length Inv-loop μ-loop
@@ -147,9 +155,11 @@ move-run-spec =
     Inv-loop
     μ-loop
     loop-holds
+    mul-move-nibble
     move-nibble-requires
     add-move-nibble
     add-move-nibble-2
+    mul-move-nibble-2
     move-nibble-requires-2
     add-nibble
     add-row

@@ -1,37 +1,36 @@
 -- `scrambler::follow_bytes` meets its contract. The invariant: the first i bytes are the scrambler's, and the rest is kept.
 -- Assumes nothing.
-use mathlib.Core.Path.{_≡_, refl, ap, ap₂, _∙_}
+use mathlib.Core.Path.{_≡_, refl, ap₂, _∙_}
 use mathlib.Core.List.{List}
 use Prim.Native.Nat.{ℕ, _-_, _≤_, _<_}
 use native.Mathlib.Omega.{arith}
 use lib.Bits.{bitXor}
 use lib.ListN.{length, getD, length-set}
 use Rattle.bits.specs.Lists.{written}
-use Rattle.bits.proofs.ListLaws.{getD-written, written-of, written-next, written-all}
+use Rattle.bits.proofs.ListLaws.{written-of, written-next, written-all}
 use borrow.Author.Needs.{needs}
 use Rattle.scrambler.specs.Scrambler.{scramblerByte}
-use Rattle.scrambler.proofs.ScramblerLaws.{byte-follows}
+use Rattle.scrambler.proofs.ScramblerLaws.{bytes-held}
 use Rattle.scrambler.proofs.follow_bytes.Statement.{statement}
 use Rattle.scrambler.proofs.follow_bytes.Tie as tie
 
 -- the byte that is stored
-stored : (i : ℕ) (was now : List ℕ) → 10 ≤ i → now ≡ written i scramblerByte was
-    → bitXor (getD now (i - 10) 0) (getD now (i - 3) 0) ≡ scramblerByte i
-stored i was now h e = ap₂ bitXor (at (i - 10) (omega arith)) (at (i - 3) (omega arith)) ∙ byte-follows i h
-  where
-    at : (k : ℕ) → k < i → getD now k 0 ≡ scramblerByte k
-    at k l = ap (λ (s : List ℕ). getD s k 0) e ∙ getD-written i scramblerByte was k 0 l
+stored : (far near i : ℕ) (was now : List ℕ) → 0 < near → near ≤ far → far ≤ i
+    → ((i : ℕ) → far ≤ i → bitXor (scramblerByte (i - far)) (scramblerByte (i - near)) ≡ scramblerByte i)
+    → now ≡ written i scramblerByte was → bitXor (getD now (i - far) 0) (getD now (i - near) 0) ≡ scramblerByte i
+stored far near i was now p l h law e =
+    ap₂ bitXor (bytes-held i was now e (i - far) (omega arith)) (bytes-held i was now e (i - near) (omega arith)) ∙ law i h
 
 abbrev Inv-loop : tie.InvT-loop
-Inv-loop count out₀ i₀ out i = (10 ≤ i) × (i ≤ count) × (out ≡ written i scramblerByte out₀) × (length out ≡ length out₀)
+Inv-loop from far near count out₀ i₀ out i = (from ≤ i) × (i ≤ count) × (out ≡ written i scramblerByte out₀) × (length out ≡ length out₀)
 
 abbrev μ-loop : tie.MeasureT-loop
-μ-loop count out₀ i₀ out i = count - i
+μ-loop from far near count out₀ i₀ out i = count - i
 
 loop-holds : tie.Need-loop-holds Inv-loop μ-loop
 loop-holds c =
     let out = c .args .out .now in
-    (search needs, search needs, written-of 10 scramblerByte 0 out out (omega (arith, c .pre)) refl (c .pre .2) (λ i h. refl), refl)
+    (search needs, search needs, written-of (c .args .from) scramblerByte 0 out out (omega (arith, c .pre .0)) refl (c .pre .1 .0) (λ i h. refl), refl)
 
 sub-out : tie.Need-sub-out Inv-loop μ-loop
 sub-out c = search needs
@@ -57,7 +56,8 @@ loop-less c = search needs
 loop-again : tie.Need-loop-again Inv-loop μ-loop
 loop-again c =
     let l = c .before .before .before .loop in
-    let value = stored _ _ _ (l .inv .0) (l .inv .2) in
+    let z = c .before .before .before .before in
+    let value = stored (z .args .far) (z .args .near) _ _ _ (z .pre .0 .0) (z .pre .0 .1) (omega arith) (z .pre .1 .1) (l .inv .2) in
     (search needs, search needs, written-next _ _ _ _ _ (l .inv .2) (omega arith) value, simp length-set (l .inv .3))
 
 same-length : tie.Need-same-length Inv-loop μ-loop

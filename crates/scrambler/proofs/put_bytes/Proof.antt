@@ -1,12 +1,10 @@
--- `scrambler::put_bytes` meets its contract: the bytes that follow are written over the first ten too. Assumes nothing.
-use mathlib.Core.Path.{_≡_, ap, _∙_}
-use mathlib.Core.List.{List}
-use Prim.Native.Nat.{ℕ}
+-- `scrambler::put_bytes` meets its contract: the bytes that follow are written over those before them too. Assumes nothing.
+use mathlib.Core.Path.{ap, _∙_}
 use native.Mathlib.Omega.{arith}
-use lib.ListN.{getD}
 use Rattle.bits.specs.Lists.{written}
-use Rattle.bits.proofs.ListLaws.{getD-written, written-over}
+use Rattle.bits.proofs.ListLaws.{written-over}
 use Rattle.scrambler.specs.Scrambler.{scramblerByte}
+use Rattle.scrambler.proofs.ScramblerLaws.{byte-follows-ten, byte-follows-eighty, bytes-held}
 use borrow.Author.Needs.{needs}
 use Rattle.scrambler.proofs.put_bytes.Statement.{statement}
 use Rattle.scrambler.proofs.put_bytes.Tie as tie
@@ -25,8 +23,8 @@ step-bytes-requires-2 c κs = search needs
 
 follow-bytes-requires : tie.Need-follow-bytes-requires
 follow-bytes-requires c κs =
-    let e = c .before .before .before .step-bytes2 .ensures in
-    (search needs, search needs, λ k h. ap (λ (l : List ℕ). getD l k 0) e ∙ getD-written 10 scramblerByte _ k 0 h)
+    let e = c .before .before .before .before .step-bytes2 .ensures in
+    (search needs, (bytes-held 10 _ _ e, byte-follows-ten))
 
 same-length-2 : tie.Need-same-length-2
 same-length-2 c = search needs
@@ -34,10 +32,33 @@ same-length-2 c = search needs
 returns-2 : tie.Need-returns-2
 returns-2 c =
     let follow = c .before .before in
-    let steps = follow .before .before .before .before in
+    let steps = follow .before .before .before .before .before in
     let count = steps .before .before .before .before .args .count in
     follow .follow-bytes .ensures ∙ ap (written count scramblerByte) (steps .step-bytes2 .ensures)
     ∙ written-over 10 count scramblerByte scramblerByte _ (omega arith)
+
+follow-bytes-requires-2 : tie.Need-follow-bytes-requires-2
+follow-bytes-requires-2 c κs =
+    let e = c .before .before .before .before .step-bytes2 .ensures in
+    (search needs, (bytes-held 10 _ _ e, byte-follows-ten))
+
+follow-bytes-requires-3 : tie.Need-follow-bytes-requires-3
+follow-bytes-requires-3 c κs =
+    let e = c .before .before .before .follow-bytes2 .ensures in
+    (search needs, (bytes-held 80 _ _ e, byte-follows-eighty))
+
+same-length-3 : tie.Need-same-length-3
+same-length-3 c = search needs
+
+returns-3 : tie.Need-returns-3
+returns-3 c =
+    let far = c .before .before in
+    let near = far .before .before .before .before in
+    let steps = near .before .before .before .before .before in
+    let count = steps .before .before .before .before .args .count in
+    far .follow-bytes3 .ensures ∙ ap (written count scramblerByte) (near .follow-bytes2 .ensures ∙ ap (written 80 scramblerByte) (steps .step-bytes2 .ensures))
+    ∙ ap (written count scramblerByte) (written-over 10 80 scramblerByte scramblerByte _ (omega arith))
+    ∙ written-over 80 count scramblerByte scramblerByte _ (omega arith)
 
 pub put-bytes-spec : {M : Type 1} → statement M
 put-bytes-spec =
@@ -49,4 +70,8 @@ put-bytes-spec =
     step-bytes-requires-2
     follow-bytes-requires
     same-length-2
-    returns-2)
+    returns-2
+    follow-bytes-requires-2
+    follow-bytes-requires-3
+    same-length-3
+    returns-3)

@@ -4,8 +4,8 @@ use Prim.Native.Nat.{_≤_}
 use native.Mathlib.Omega.{arith}
 use borrow.Author.Needs.{needs}
 use Rattle.card.specs.Modes.{blockBytes}
-use Rattle.turbo.specs.Pairs.{pairCount}
-use Rattle.turbo.proofs.StepLaws.{few-pairs}
+use Rattle.constituent.specs.Pairs.{pairCount}
+use Rattle.constituent.proofs.PairLaws.{few-pairs}
 use Rattle.turbo.proofs.encode.Statement.{statement}
 use Rattle.turbo.proofs.encode.Tie as tie
 
@@ -15,29 +15,23 @@ slice-aggregate-encode-in c = search needs
 slice-aggregate-encode-in-2 : tie.Need-slice-aggregate-encode-in-2
 slice-aggregate-encode-in-2 c = search needs
 
-slice-aggregate-encode-in-3 : tie.Need-slice-aggregate-encode-in-3
-slice-aggregate-encode-in-3 c = search needs
-
 encode-in-requires : tie.Need-encode-in-requires
 encode-in-requires c κs =
-    let z = c .before .before .before .before .before .before .before in
-    let e : blockBytes (z .args .kind) ≡ 16 = ap blockBytes (c .before .before .before .before .if1 .taken) in
-    (z .pre, (omega (arith, e), omega (arith, e), omega (arith, e)))
+    let z = c .before .before .before .before .before .before in
+    let e : blockBytes (z .args .kind) ≡ 16 = ap blockBytes (c .before .before .before .if1 .taken) in
+    (z .pre, (omega (arith, e), omega (arith, e)))
+
+slice-aggregate-encode-in-3 : tie.Need-slice-aggregate-encode-in-3
+slice-aggregate-encode-in-3 c = search needs
 
 slice-aggregate-encode-in-4 : tie.Need-slice-aggregate-encode-in-4
 slice-aggregate-encode-in-4 c = search needs
 
-slice-aggregate-encode-in-5 : tie.Need-slice-aggregate-encode-in-5
-slice-aggregate-encode-in-5 c = search needs
-
-slice-aggregate-encode-in-6 : tie.Need-slice-aggregate-encode-in-6
-slice-aggregate-encode-in-6 c = search needs
-
 encode-in-requires-2 : tie.Need-encode-in-requires-2
 encode-in-requires-2 c κs =
-    let z = c .before .before .before .before .before .before .before in
+    let z = c .before .before .before .before .before .before in
     let e : pairCount (z .args .kind) ≤ 2080 = omega (arith, few-pairs (z .args .kind) (z .pre .0)) in
-    (z .pre, (omega (arith, e), omega (arith, e), omega (arith, e)))
+    (z .pre, (omega (arith, e), omega (arith, e)))
 
 same-length : tie.Need-same-length
 same-length c = search needs
@@ -57,11 +51,9 @@ encode-spec =
     (tie.spec
     slice-aggregate-encode-in
     slice-aggregate-encode-in-2
-    slice-aggregate-encode-in-3
     encode-in-requires
+    slice-aggregate-encode-in-3
     slice-aggregate-encode-in-4
-    slice-aggregate-encode-in-5
-    slice-aggregate-encode-in-6
     encode-in-requires-2
     same-length
     returns

@@ -4,7 +4,7 @@ use Prim.Native.Nat.{ℕ, _*_, _/_, _^_}
 use lib.Count.{ones, onesIn}
 use borrow.Author.Needs.{needs}
 use Rattle.bits.proofs.RangeLaws.{under, under₂}
-use Rattle.turbo.specs.Pairs.{pairCount}
+use Rattle.constituent.specs.Pairs.{pairCount}
 use Rattle.turbo.specs.Puncture.{row}
 use Rattle.turbo.proofs.PunctureLaws.{kept-count}
 use Rattle.turbo.proofs.kept_count.Statement.{statement}

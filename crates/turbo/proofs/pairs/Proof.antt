@@ -1,7 +1,7 @@
 -- `turbo::pairs` meets its contract. Assumes nothing.
 use native.Mathlib.Omega.{arith}
 use borrow.Author.Needs.{needs}
-use Rattle.turbo.proofs.StepLaws.{few-pairs}
+use Rattle.constituent.proofs.PairLaws.{few-pairs}
 use Rattle.turbo.proofs.pairs.Statement.{statement}
 use Rattle.turbo.proofs.pairs.Tie as tie
 

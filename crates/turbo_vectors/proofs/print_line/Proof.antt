@@ -3,7 +3,7 @@ use mathlib.Core.Path.{_∙_, sym}
 use native.Mathlib.Omega.{arith}
 use lib.Seq.{length-take-le}
 use borrow.Author.Needs.{needs}
-use Rattle.turbo.proofs.StepLaws.{few-pairs}
+use Rattle.constituent.proofs.PairLaws.{few-pairs}
 use Rattle.turbo_vectors.proofs.print_line.Statement.{statement}
 use Rattle.turbo_vectors.proofs.print_line.Tie as tie
 

@@ -4,7 +4,7 @@ use native.Mathlib.Omega.{arith}
 use lib.Seq.{length-take-le}
 use borrow.Author.Needs.{needs}
 use Rattle.turbo.proofs.PunctureLaws.{kept-le}
-use Rattle.turbo.proofs.StepLaws.{few-pairs}
+use Rattle.constituent.proofs.PairLaws.{few-pairs}
 use Rattle.turbo_vectors.proofs.print_parity.Statement.{statement}
 use Rattle.turbo_vectors.proofs.print_parity.Tie as tie
 
@@ -15,6 +15,15 @@ encode-requires : tie.Need-encode-requires
 encode-requires c κs =
     let z = c .before .before in
     (z .pre .0, z .pre .1, z .pre .2, omega (arith, kept-le (z .args .kind) (z .args .rate), few-pairs (z .args .kind) (z .pre .0)))
+
+slice-aggregate-unpack : tie.Need-slice-aggregate-unpack
+slice-aggregate-unpack c = search needs
+
+slice-aggregate-unpack-2 : tie.Need-slice-aggregate-unpack-2
+slice-aggregate-unpack-2 c = search needs
+
+unpack-requires : tie.Need-unpack-requires
+unpack-requires c κs = search needs
 
 slice-aggregate-to-text : tie.Need-slice-aggregate-to-text
 slice-aggregate-to-text c = search needs
@@ -27,8 +36,8 @@ kept-count-requires c κs = search needs
 
 array-share-prefix-out : tie.Need-array-share-prefix-out
 array-share-prefix-out c =
-    let z = c .before .before .before .before .before .before .before .before in
-    let whole = c .before .before .before .before .before .encode .kept .1 .1 .1 .1 .0 in
+    let z = c .before .before .before .before .before .before .before .before .before .before .before .before in
+    let whole = c .before .before .before .before .before .unpack .kept .1 .0 in
     omega
     (arith, c .kept-count .ensures, c .before .before .to-text .kept .0, whole, kept-le (z .args .kind) (z .args .rate), few-pairs (z .args .kind) (z .pre .0))
 
@@ -53,6 +62,9 @@ print-parity-spec =
     (tie.spec
     slice-aggregate-encode
     encode-requires
+    slice-aggregate-unpack
+    slice-aggregate-unpack-2
+    unpack-requires
     slice-aggregate-to-text
     to-text-requires
     kept-count-requires

@@ -1,0 +1,53 @@
+-- `turbo::next_kept` meets its contract. Assumes nothing.
+use native.Mathlib.Omega.{arith}
+use borrow.Author.Needs.{needs}
+use Rattle.bits.proofs.RangeLaws.{under}
+use Rattle.turbo.specs.Puncture.{row}
+use Rattle.turbo.proofs.PunctureLaws.{kept-from, zeros-few, zeros-many, rest-some}
+use Rattle.turbo.proofs.next_kept.Statement.{statement}
+use Rattle.turbo.proofs.next_kept.Tie as tie
+
+mul-row : tie.Need-mul-row
+mul-row c = search needs
+
+array-read-row : tie.Need-array-read-row
+array-read-row c = search needs
+
+cast-row : tie.Need-cast-row
+cast-row c = record { fits = under 2 4294967296 row tt (c .args .rate) (c .pre .0) }
+
+sub-rest : tie.Need-sub-rest
+sub-rest c = search needs
+
+cast-rest : tie.Need-cast-rest
+cast-rest c = search needs
+
+shl-rest : tie.Need-shl-rest
+shl-rest c = search needs
+
+rem-rest : tie.Need-rem-rest
+rem-rest c = rest-some (c .args .from) (c .pre .1)
+
+cast-result : tie.Need-cast-result
+cast-result c = omega (arith, zeros-few (c .args .rate) (c .args .from))
+
+sub-result : tie.Need-sub-result
+sub-result c = zeros-many (c .args .rate) (c .args .from) (c .pre .0) (c .pre .1)
+
+returns : tie.Need-returns
+returns c = kept-from (c .args .rate) (c .args .from) (c .pre .0) (c .pre .1)
+
+pub next-kept-spec : {M : Type 1} → statement M
+next-kept-spec =
+    tie.close
+    (tie.spec
+    mul-row
+    array-read-row
+    cast-row
+    sub-rest
+    cast-rest
+    shl-rest
+    rem-rest
+    cast-result
+    sub-result
+    returns)
