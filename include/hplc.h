@@ -76,10 +76,10 @@ enum hplc_number {
  */
 #define HPLC_STACK_CARD 5632
 #define HPLC_STACK_POINT 512
-#define HPLC_STACK_FC_SEND 9216
-#define HPLC_STACK_FC_READ 9216
-#define HPLC_STACK_PAYLOAD_SEND 16384
-#define HPLC_STACK_PAYLOAD_READ 31744
+#define HPLC_STACK_FC_SEND 9728
+#define HPLC_STACK_FC_READ 11264
+#define HPLC_STACK_PAYLOAD_SEND 16896
+#define HPLC_STACK_PAYLOAD_READ 28672
 
 /* The library's version, as HPLC_VERSION has it. */
 uint32_t hplc_version(void);
