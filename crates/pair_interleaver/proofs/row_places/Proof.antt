@@ -38,6 +38,11 @@ part-places-start c = end-le (c .before .before .args .kind) (c .before .before 
 part-places-end : tie.Need-part-places-end
 part-places-end c = omega (arith, end-small (c .before .before .args .kind + 1) (omega arith))
 
+returns : tie.Need-returns
+returns c =
+    let z = c .before .before .before .before .before .before .before in
+    c .before .before .places .ensures ∙ ap (λ (s : List ℕ). written (4 * length s) (placeIn s) (z .args .out .now)) (cut-starts (z .args .kind) (z .pre .0))
+
 places-requires : tie.Need-places-requires
 places-requires c κs =
     let z = c .before .before .before .before in
@@ -46,11 +51,6 @@ places-requires c κs =
 
 same-length : tie.Need-same-length
 same-length c = search needs
-
-returns : tie.Need-returns
-returns c =
-    let z = c .before .before .before .before .before .before .before in
-    c .before .before .places .ensures ∙ ap (λ (s : List ℕ). written (4 * length s) (placeIn s) (z .args .out .now)) (cut-starts (z .args .kind) (z .pre .0))
 
 pub row-places-spec : {M : Type 1} → statement M
 row-places-spec =
