@@ -8,7 +8,7 @@ use native.Mathlib.Nat.{add-zero, add-suc, eq-or-lt-of-le, le-of-suc-le-suc, not
 use native.Mathlib.Numerals.{add-one}
 use native.Mathlib.Omega.{arith}
 use lib.Dec.{ltb}
-use lib.ListN.{length, getD, take, drop, set, replicate, length-append, length-drop, length-replicate, getD-replicate, List·getD-append, drop-of-length-le}
+use lib.ListN.{length, getD, take, drop, set, length-append, length-drop, List·getD-append, drop-of-length-le}
 use lib.Seq.{ext-getD, drop-cons, set-at, getD-at, take-at, drop-at, drop-drop, getD-append-add, getD-drop}
 use borrow.Author.Tests.{lt-ltb, le-ltb, ltb-false}
 use borrow.Rule.Slice.PartAt.{part-to-end}
@@ -49,9 +49,6 @@ module _ {A : Type 0} where
 
   pub tabulate-list : (d : A) (xs : List A) → tabulate (length xs) (λ k. getD xs k d) ≡ xs
   tabulate-list d xs = sym (tabulate-of (length xs) (λ k. getD xs k d) d xs refl (λ i h. refl))
-
-  pub tabulate-replicate : (n : ℕ) (a : A) → replicate n a ≡ tabulate n (λ k. a)
-  tabulate-replicate n a = tabulate-of n (λ k. a) a (replicate n a) (length-replicate n a) (λ i h. getD-replicate n i a a h)
 
   -- nothing is written yet
   pub written-none : (f : ℕ → A) (out : List A) → out ≡ written 0 f out

@@ -65,12 +65,9 @@ pub count-next : (n : ℕ) (t : ℕ → Bool) → count (n + 1) t ≡ count n t 
 unfolding count
 count-next n t = sum-next n (λ k. cond (t k) 1 0)
 
--- one more, where the number passes and where it does not
+-- one more, where the number passes
 pub count-true : (n : ℕ) (t : ℕ → Bool) → t n ≡ true → count (n + 1) t ≡ count n t + 1
 count-true n t e = count-next n t ∙ ap (λ (b : Bool). count n t + cond b 1 0) e
-
-pub count-false : (n : ℕ) (t : ℕ → Bool) → t n ≡ false → count (n + 1) t ≡ count n t
-count-false n t e = let q : count (n + 1) t ≡ count n t + 0 = count-next n t ∙ ap (λ (b : Bool). count n t + cond b 1 0) e in omega arith
 
 pub one-le : (b : Bool) → cond b 1 0 ≤ 1
 one-le true = omega arith

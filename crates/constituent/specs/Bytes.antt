@@ -1,7 +1,7 @@
 -- The encoders a byte at a time: four pairs in one step. Only loops cite it. Assumes nothing.
 use mathlib.Core.Path.{_≡_}
 use mathlib.Core.List.{List}
-use Prim.Native.Nat.{ℕ, zero, suc, _+_, _-_, _*_, _/_, _%_, _^_, _<_}
+use Prim.Native.Nat.{ℕ, zero, suc, _+_, _*_, _/_, _%_, _^_, _<_}
 use lib.ListN.{length, getD}
 use Rattle.constituent.specs.declared.Rows.{Rows}
 use Rattle.constituent.specs.Pairs.{pairIn}

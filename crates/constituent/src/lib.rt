@@ -12,7 +12,7 @@ ghost use Rattle.card.specs.Modes.{blockBytes};
 ghost use Rattle.constituent.specs.Pairs.{pairAt, pairIn};
 ghost use Rattle.constituent.specs.Encoder.{next, parity, startOf};
 ghost use Rattle.constituent.specs.Bytes.{byteWord, Doubling, ByBytes, ByStates};
-ghost use Rattle.constituent.specs.Passes.{stateBy, SameEnd, Ended, Started, Blocks, inTurn};
+ghost use Rattle.constituent.specs.Passes.{SameEnd, Ended, Started, Blocks, inTurn};
 
 // The three rows of M, by kind.
 const ROW1: [u8; 5] = [1, 1, 3, 5, 1];

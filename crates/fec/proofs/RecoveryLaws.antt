@@ -1,6 +1,6 @@
 -- Laws of recovery: clean coded bits come back, an undecided bit refuses, and only the block's coded bits count. Assumes nothing.
-use mathlib.Core.Path.{_≡_, refl, sym, ap, ap₂, _∙_}
-use mathlib.Core.Bool.{true, false, not}
+use mathlib.Core.Path.{_≡_, sym, ap, ap₂, _∙_}
+use mathlib.Core.Bool.{false, not}
 use mathlib.Core.List.{List, _++_}
 use Prim.Native.Nat.{ℕ, _+_, _≤_, _<_}
 use native.Mathlib.Omega.{arith}
@@ -14,7 +14,7 @@ use Rattle.bits.proofs.SumLaws.{count-none, count-ext}
 use Rattle.refusal.specs.declared.Refusal.the-variants.{Majority, Parity}
 use Rattle.refusal.specs.Report.{done, refusal}
 use Rattle.refusal.specs.Outcome.{Row, inOrder, rowOrder, outcome}
-use Rattle.refusal.proofs.OutcomeLaws.{NoneApplies, outcomeBy, outcome-good}
+use Rattle.refusal.proofs.OutcomeLaws.{NoneApplies, outcome-good}
 use Rattle.card.specs.Modes.{blockBytes}
 use Rattle.turbo.specs.Puncture.{keptCount}
 use Rattle.turbo.specs.Parity.{keptBit}
@@ -35,12 +35,6 @@ none-applies kind rate taps e h p =
     (le-ltb (firstUndecided kind rate e) (codedBits kind rate) h, (le-ltb 0 (disagreeing kind rate taps e) (omega arith), tt))
 
 module _ (kind rate taps : ℕ) (e : ℕ → ℕ) (out : List ℕ) where
-  -- the rows are in the table's order, so that an entry's earlier rows can be put before them
-  pub recovered-rows : recovered kind rate taps e out
-      ≡ outcomeBy (recoverRows kind rate taps e) out (blockBytes kind) (bytesOf (blockBytes kind) (dataBit kind rate e) ++ drop (blockBytes kind) out)
-  unfolding recovered
-  recovered-rows = refl
-
   pub refused-majority : firstUndecided kind rate e < codedBits kind rate
       → recovered kind rate taps e out ≡ record { report = refusal (Majority (firstUndecided kind rate e)); out = out }
   unfolding recovered
@@ -116,14 +110,6 @@ module _ (kind rate : ℕ) (e : ℕ → ℕ) (b : ℕ) (undecided : 1 < e b) whe
     pub undecided-here : ((k : ℕ) → k < b → e k ≤ 1) → firstUndecided kind rate e ≡ b
     unfolding firstUndecided
     undecided-here below = lowest-here (codedBits kind rate) (λ i. ltb 1 (e i)) b h (λ k l. le-ltb 1 (e k) (below k l)) (lt-ltb 1 (e b) undecided)
-
-    -- the first row applies, and the lent memory is kept
-    pub undecided-applies : ltb (firstUndecided kind rate e) (codedBits kind rate) ≡ true
-    undecided-applies = lt-ltb (firstUndecided kind rate e) (codedBits kind rate) (omega (arith, undecided-le))
-
-    pub undecided-refused : (taps : ℕ) (out : List ℕ)
-        → recovered kind rate taps e out ≡ record { report = refusal (Majority (firstUndecided kind rate e)); out = out }
-    undecided-refused taps out = refused-majority kind rate taps e out (omega (arith, undecided-le))
 
 -- where none is undecided every coded bit is a bit
 pub all-decided : (kind rate : ℕ) (e : ℕ → ℕ) → codedBits kind rate ≤ firstUndecided kind rate e → Binary (codedBits kind rate) e

@@ -1,5 +1,5 @@
 -- A block's source bits in rows, and the bytes that they fill. Assumes nothing.
-use mathlib.Core.Path.{_≡_, refl, sym, ap, ap₂, _∙_}
+use mathlib.Core.Path.{_≡_, sym, ap, ap₂, _∙_}
 use mathlib.Core.Bool.{Bool}
 use mathlib.Core.List.{List, _++_}
 use Prim.Native.Nat.{ℕ, _+_, _-_, _*_, _/_, _%_, _≤_, _<_}
@@ -10,27 +10,25 @@ use lib.Dec.{T, leb, leb→le, ltb, ltb→lt}
 use lib.ListN.{length, getD, take, drop, length-take, length-drop}
 use lib.Seq.{length-take-le, getD-take, getD-drop}
 use borrow.Author.Tests.{lt-ltb, le-ltb}
-use borrow.Rule.Slice.PartAt.{part-to-end}
 use Rattle.bits.specs.Bits.{bitAt, bitOf, byteOf}
 use Rattle.bits.specs.Lists.{written}
 use Rattle.bits.specs.Ranges.{allBelow}
 use Rattle.bits.proofs.BitLaws.{Binary, bytes-ext, written-bits}
 use Rattle.bits.proofs.ListLaws.{length-written, getD-written, written-ext, written-part}
-use Rattle.bits.proofs.NumberLaws.{lt-cases}
 use Rattle.bits.proofs.RangeLaws.{at-each, agree₂}
 use Rattle.card.specs.Modes.{blockBytes}
 use Rattle.columns.specs.Columns.{rowed, unrowed, tallest}
 use Rattle.turbo.specs.Puncture.{keptCount}
 use Rattle.turbo.specs.Parity.{keptBit}
 use Rattle.turbo.proofs.ParityLaws.{kept-binary}
-use Rattle.interleaver.specs.Layouts.{Defined, groups, layoutOf}
+use Rattle.interleaver.specs.Layouts.{Defined, layoutOf}
 use Rattle.interleaver.specs.Source.{codedBits, source, codedAt}
 use Rattle.interleaver.specs.RowOrder.{sourceAt, rowPlace, rowSource}
 use Rattle.interleaver.proofs.InterleaverLaws.{coded-lt, row-place-lt, row-source-lt, row-source-place}
 use Rattle.interleaver.proofs.RowLaws.{filled-lt}
 use Rattle.fec.specs.Coding.{dataBits, sourceBit, codedBit}
 use Rattle.fec.specs.Recovery.{dataBit, parityBit}
-use Rattle.fec.proofs.CodingLaws.{few-bytes, source-data, source-parity, coded-count}
+use Rattle.fec.proofs.CodingLaws.{source-data, source-parity, coded-count}
 
 -- how many rows of data a block has, and how many of parity: `high` and `low` below
 abbrev pub dataHeight : ℕ → ℕ

@@ -10,7 +10,7 @@ use lib.Seq.{getD-drop, getD-take}
 use borrow.Author.Tests.{eq-eqb, ne-eqb}
 use Rattle.bits.specs.Bits.{bitOf}
 use Rattle.bits.specs.Lists.{tabulate, written}
-use Rattle.bits.proofs.ListLaws.{length-tabulate, getD-tabulate, length-written, getD-written, getD-kept, written-of, written-part, written-all, written-ext, take-written, written-over}
+use Rattle.bits.proofs.ListLaws.{length-tabulate, getD-tabulate, getD-written, written-part, written-all, written-ext, take-written, written-over}
 use Rattle.bits.proofs.NumberLaws.{lt-cases, row-within}
 use Rattle.card.specs.Modes.{blockBytes}
 use Rattle.pair_interleaver.specs.Interleave.{starts, interleaved, placeBy, Interleaver, exchanged, exchangedAt, interleavedBy}

@@ -10,9 +10,7 @@ use Rattle.bits.specs.Bits.{bitAt}
 use Rattle.bits.specs.Lists.{lowest}
 use Rattle.bits.specs.Ranges.{allBelow}
 use Rattle.bits.specs.Sums.{sum, count}
-use Rattle.bits.proofs.NumberLaws.{lt-cases}
-use Rattle.bits.proofs.RangeLaws.{at-each, agree, agree₂, agree-tests}
-use Rattle.bits.proofs.ListLaws.{lowest-below, lowest-le, lowest-ext}
+use Rattle.bits.proofs.RangeLaws.{at-each, agree₂, agree-tests}
 use Rattle.bits.proofs.SumLaws.{count-append, count-ext, count-le, lowest-nth, nth}
 use Rattle.constituent.specs.Pairs.{pairCount}
 use Rattle.turbo.specs.Puncture.{row, kept, keptFrom, keptTime, keptCount}
@@ -41,11 +39,6 @@ kept-count = agree₂ 5 2 (λ kind rate. pairCount kind / 8 * ones (row rate)) k
 pub remain : keptCount 4 1 ≡ 520
 unfolding ones onesIn
 remain = sym (kept-count 4 1 (lit< tt) (lit< tt))
-
--- of 260 times
-pub remain-times : count (pairCount 4) (kept 1) ≡ 260
-unfolding keptCount
-remain-times = omega (arith, remain)
 
 -- a time that is kept is the one after as many others as are kept before it
 pub kept-time : (kind rate t : ℕ) → t < pairCount kind → kept rate t ≡ true → keptTime kind rate (count t (kept rate)) ≡ t

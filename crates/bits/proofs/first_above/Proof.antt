@@ -1,5 +1,4 @@
 -- `bits::first_above` meets its contract: where the largest element is within the limit, there is nothing to find. Assumes nothing.
-use mathlib.Core.Path.{_≡_}
 use native.Mathlib.Omega.{arith}
 use borrow.Author.Needs.{needs}
 use Rattle.bits.proofs.ListLaws.{first-largest}

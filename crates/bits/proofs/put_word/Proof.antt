@@ -1,5 +1,4 @@
 -- `bits::put_word` meets its contract. Assumes nothing.
-use mathlib.Core.Path.{_≡_}
 use native.Mathlib.Omega.{arith}
 use lib.ListN.{length-set}
 use Rattle.bits.proofs.ListLaws.{written-none, written-two}

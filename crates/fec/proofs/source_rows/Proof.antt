@@ -1,6 +1,6 @@
 -- `fec::source_rows` meets its contract. Assumes nothing.
 use mathlib.Core.Path.{_≡_, refl, sym, ap, _∙_}
-use Prim.Native.Nat.{ℕ, _*_, _/_, _≤_, _<_}
+use Prim.Native.Nat.{ℕ, _*_, _/_, _≤_}
 use native.Mathlib.Omega.{arith}
 use lib.ListN.{length, take, length-take, length-drop}
 use lib.Seq.{length-take-le}
@@ -8,7 +8,6 @@ use borrow.Author.Needs.{needs}
 use Rattle.bits.specs.Bits.{bitOf}
 use Rattle.bits.proofs.ListLaws.{length-written}
 use Rattle.turbo.specs.Puncture.{keptCount}
-use Rattle.turbo.specs.Parity.{keptBit}
 use Rattle.fec.proofs.CodingLaws.{few-bytes}
 use Rattle.fec.proofs.RowLaws.{data-served, parity-served, kept-bytes, all-rows, parity-long, parity-held, rows-written}
 use Rattle.fec.proofs.source_rows.Statement.{statement}

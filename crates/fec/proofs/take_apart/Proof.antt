@@ -1,15 +1,13 @@
 -- `fec::take_apart` meets its contract. Assumes nothing.
-use mathlib.Core.Path.{_≡_, refl, sym, _∙_}
-use mathlib.Core.List.{List}
-use Prim.Native.Nat.{ℕ, _*_, _≤_}
+use mathlib.Core.Path.{refl, sym, _∙_}
+use Prim.Native.Nat.{_*_, _≤_}
 use native.Mathlib.Omega.{arith}
 use denote.Ref.{now}
 use lib.ListN.{length}
 use lib.Seq.{length-take-le}
 use borrow.Author.Needs.{needs}
-use Rattle.interleaver.specs.Source.{codedBits}
 use Rattle.fec.proofs.CodingLaws.{few-bytes}
-use Rattle.fec.proofs.RowLaws.{data-served, parity-served, kept-bytes, all-rows, rows-long, data-rows-long, data-rows-binary, block-written, parity-rows-long, parity-rows-binary, parity-written}
+use Rattle.fec.proofs.RowLaws.{data-served, parity-served, kept-bytes, all-rows, rows-long, data-rows-binary, block-written, parity-rows-long, parity-rows-binary, parity-written}
 use Rattle.fec.proofs.PartLaws.{decided-binary}
 use Rattle.fec.proofs.take_apart.Statement.{statement}
 use Rattle.fec.proofs.take_apart.Tie as tie
