@@ -8,7 +8,7 @@ use native.Mathlib.Omega.{arith}
 use lib.Arith.{digits-div, digits-mod}
 use lib.Dec.{T, leb, leb→le, ltb, ltb→lt}
 use lib.ListN.{length, getD, take, drop, length-take, length-drop}
-use lib.Seq.{length-take-le, getD-take, getD-drop}
+use lib.Seq.{getD-take, getD-drop}
 use borrow.Author.Tests.{lt-ltb, le-ltb}
 use Rattle.bits.specs.Bits.{bitAt, bitOf, byteOf}
 use Rattle.bits.specs.Lists.{written}
@@ -165,9 +165,6 @@ module _ (kind rate high low : ℕ) (D : Defined kind rate) (eh : high ≡ dataH
         rw (row-held j h) (b (codedAt kind rate (rowSource kind rate j)) (coded-lt kind rate D (rowSource kind rate j) (row-source-lt kind rate D j h)))
 
     -- the data rows
-    pub data-rows-long : length (take (4 * high) rows) ≡ 4 * high
-    data-rows-long = length-take-le (4 * high) rows (omega (arith, rows-long, all-rows))
-
     pub data-rows-binary : Binary (codedBits kind rate) decidedAt → (j : ℕ) → j < 4 * high → getD (take (4 * high) rows) j 0 < 2
     data-rows-binary b j h = rw (getD-take (4 * high) rows j 0 h) (row-binary b j (omega (arith, all-rows)))
 
