@@ -1,7 +1,7 @@
 -- The joined stream of a layout of pairs. Assumes nothing.
 use mathlib.Core.Path.{_≡_, ap, _∙_}
 use mathlib.Core.Bool.{true, false}
-use Prim.Native.Nat.{ℕ, _+_, _*_, _<_}
+use Prim.Native.Nat.{ℕ, _+_, _*_, _/_, _%_, _<_}
 use native.Mathlib.Nat.{mod-lt}
 use native.Mathlib.Omega.{arith}
 use lib.Dec.{ltb}
@@ -49,3 +49,7 @@ module _ (L : Layout) (S : Sound L) (P : Paired L) where
         l,
         mod-lt (row + L .offset) (omega arith),
       )
+
+-- both nibbles of a pair are turned alike
+pub same-turn : (n place : ℕ) → n ≡ place * 2 → n / 2 % 4 ≡ (n + 1) / 2 % 4
+same-turn n place e = let h : n / 2 ≡ (n + 1) / 2 = omega arith in ap (λ (t : ℕ). t % 4) h

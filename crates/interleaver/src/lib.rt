@@ -4,7 +4,7 @@
 // Internal: nothing here is a public entry. A function with a `requires` is called only where its caller has shown it.
 ghost use mathlib.Core.Path.{_≡_};
 ghost use mathlib.Core.Bool.{true, false, cond};
-ghost use Prim.Native.Nat.{ℕ, _+_, _-_, _*_, _%_, _<_, _≤_, min};
+ghost use Prim.Native.Nat.{ℕ, _+_, _-_, _*_, _/_, _%_, _<_, _≤_, min};
 ghost use lib.ListN.{length, getD};
 ghost use Rattle.bits.specs.Lists.{written};
 ghost use Rattle.card.specs.Modes.{blockBytes};
@@ -90,13 +90,12 @@ fn moved_row(rows: usize, offset: usize, row: usize) -> usize
     if moved < rows { moved } else { moved - rows }
 }
 
-// The four bits of nibble n, whose row starts at `first`, from rows to coded bits or back.
-fn move_nibble(n: usize, first: usize, back: bool, from: &[u8], to: &mut [u8])
-    requires { ⌜ (n * 4 + 4 ≤ length (now from)) × (n * 4 + 4 ≤ length (now to)) × (first + 4 ≤ length (now from)) × (first + 4 ≤ length (now to)) ⌝ }
+// The four bits of nibble n, which is turned by `turn` and whose row starts at `first`, from rows to coded bits or back.
+fn move_word(n: usize, turn: u32, first: usize, back: bool, from: &[u8], to: &mut [u8])
+    requires { ⌜ (turn ≡ n / 2 % 4) × (n * 4 + 4 ≤ length (now from)) × (n * 4 + 4 ≤ length (now to)) × (first + 4 ≤ length (now from)) × (first + 4 ≤ length (now to)) ⌝ }
     ensures { λ _. ⌜ now (to .exit) ≡ stored 4 (λ b. cond back (first + column n b) (n * 4 + b))
         (λ b. getD (now (from .entry)) (cond back (n * 4 + b) (first + column n b)) 0) (now (to .entry)) ⌝ }
 {
-    let turn = (n / 2 % 4) as u32;
     if back {
         let word = words::gather(from, n * 4, 1);
         words::scatter(words::turned_back(word, turn), first, 1, to);
@@ -104,6 +103,15 @@ fn move_nibble(n: usize, first: usize, back: bool, from: &[u8], to: &mut [u8])
         let word = words::gather(from, first, 1);
         words::scatter(words::turned(word, turn), n * 4, 1, to);
     }
+}
+
+// The same, where the turn is not at hand.
+fn move_nibble(n: usize, first: usize, back: bool, from: &[u8], to: &mut [u8])
+    requires { ⌜ (n * 4 + 4 ≤ length (now from)) × (n * 4 + 4 ≤ length (now to)) × (first + 4 ≤ length (now from)) × (first + 4 ≤ length (now to)) ⌝ }
+    ensures { λ _. ⌜ now (to .exit) ≡ stored 4 (λ b. cond back (first + column n b) (n * 4 + b))
+        (λ b. getD (now (from .entry)) (cond back (n * 4 + b) (first + column n b)) 0) (now (to .entry)) ⌝ }
+{
+    move_word(n, (n / 2 % 4) as u32, first, back, from, to);
 }
 
 // The parity nibble that the joined stream stands at, if it stands at one, and where the stream stands after it.
@@ -205,7 +213,7 @@ fn move_groups(l: Layout, back: bool, from: &[u8], to: &mut [u8])
     }
 }
 
-// Pairs of a pass, as long as the row is below `end`: the pair's parity row stands `apart` after its data row.
+// Pairs of a pass, as long as the row is below `end`. Both nibbles of a pair have one turn, and its parity row stands `apart` after its data row.
 fn move_run(
     l: Layout,
     start: Run,
@@ -225,8 +233,9 @@ fn move_run(
     let mut nibble = start.nibble;
     let mut row = start.row;
     while row < end {
-        move_nibble(nibble, row * 4, back, from, to);
-        move_nibble(nibble + 1, (apart + row) * 4, back, from, to);
+        let turn = (nibble / 2 % 4) as u32;
+        move_word(nibble, turn, row * 4, back, from, to);
+        move_word(nibble + 1, turn, (apart + row) * 4, back, from, to);
         nibble += 2;
         row += l.step;
     }

@@ -10,7 +10,7 @@ use Rattle.interleaver.specs.RowOrder.{rowOf}
 use Rattle.interleaver.specs.Stores.{carried}
 use Rattle.interleaver.specs.Walks.{Runs}
 use Rattle.interleaver.proofs.WalkLaws.{pass-on}
-use Rattle.interleaver.proofs.PairLaws.{Pair, parity-is, pair-at}
+use Rattle.interleaver.proofs.PairLaws.{Pair, parity-is, pair-at, same-turn}
 use Rattle.interleaver.proofs.NibbleLaws.{carried-none, carried-join, carried-one}
 use Rattle.interleaver.proofs.move_run.Statement.{statement}
 use Rattle.interleaver.proofs.move_run.Tie as tie
@@ -57,41 +57,44 @@ loop-holds c =
       carried-none (s .args .l) (s .args .back) (now (s .args .from)) (s .args .start .nibble) (now (s .args .to)),
     )
 
-mul-move-nibble : tie.Need-mul-move-nibble Inv-loop μ-loop
-mul-move-nibble c = omega (arith, within c .2, entry c .pre .1)
+cast-turn : tie.Need-cast-turn Inv-loop μ-loop
+cast-turn c = omega arith
 
-move-nibble-requires : tie.Need-move-nibble-requires Inv-loop μ-loop
-move-nibble-requires c κs =
+mul-move-word : tie.Need-mul-move-word Inv-loop μ-loop
+mul-move-word c = omega (arith, within c .2, entry c .pre .1)
+
+move-word-requires : tie.Need-move-word-requires Inv-loop μ-loop
+move-word-requires c κs =
     let t = c .before in
     let s = entry t in
     let (coded, n, row, first) = within t in
     let room : codedOf (s .args .l) ≤ length (t .before .loop .to) = omega (arith, s .pre .7, t .before .loop .inv .3) in
-    (omega (arith, s .pre .6), omega arith, omega (arith, s .pre .6), omega arith)
+    (refl, omega (arith, s .pre .6), omega arith, omega (arith, s .pre .6), omega arith)
 
-add-move-nibble : tie.Need-add-move-nibble Inv-loop μ-loop
-add-move-nibble c =
+add-move-word : tie.Need-add-move-word Inv-loop μ-loop
+add-move-word c =
     let t = c .before .before .before .before in
     omega (arith, within t .1, entry t .pre .1)
 
-add-move-nibble-2 : tie.Need-add-move-nibble-2 Inv-loop μ-loop
-add-move-nibble-2 c =
+add-move-word-2 : tie.Need-add-move-word-2 Inv-loop μ-loop
+add-move-word-2 c =
     let t = c .before .before .before .before in
     omega (arith, within t .3, entry t .pre .1)
 
-mul-move-nibble-2 : tie.Need-mul-move-nibble-2 Inv-loop μ-loop
-mul-move-nibble-2 c =
+mul-move-word-2 : tie.Need-mul-move-word-2 Inv-loop μ-loop
+mul-move-word-2 c =
     let t = c .before .before .before .before in
     omega (arith, within t .3, entry t .pre .1)
 
-move-nibble-requires-2 : tie.Need-move-nibble-requires-2 Inv-loop μ-loop
-move-nibble-requires-2 c κs =
+move-word-requires-2 : tie.Need-move-word-requires-2 Inv-loop μ-loop
+move-word-requires-2 c κs =
     let m = c .before .before .before in
     let t = m .before .before in
     let s = entry t in
     let (coded, n, row, first) = within t in
-    let room : codedOf (s .args .l) ≤ length (m .move-nibble .last .1 .1 .1 .1 .0) =
-    omega (arith, s .pre .7, t .before .loop .inv .3, m .move-nibble .kept .1 .1 .1 .1 .0) in
-    (omega (arith, s .pre .6), omega arith, omega (arith, s .pre .6), omega arith)
+    let room : codedOf (s .args .l) ≤ length (m .move-word .last .1 .1 .1 .1 .1 .0) =
+    omega (arith, s .pre .7, t .before .loop .inv .3, m .move-word .kept .1 .1 .1 .1 .1 .0) in
+    (same-turn _ (t .before .loop .inv .0 .place) (t .before .loop .inv .0 .nibble-is), omega (arith, s .pre .6), omega arith, omega (arith, s .pre .6), omega arith)
 
 add-nibble : tie.Need-add-nibble Inv-loop μ-loop
 add-nibble c =
@@ -133,11 +136,11 @@ loop-again c =
       },
       omega (arith, i .inv .1),
       omega (arith, i .inv .2),
-      y .move-nibble2 .kept .1 .1 .1 .1 .0 ∙ x .move-nibble .kept .1 .1 .1 .1 .0 ∙ i .inv .3,
+      y .move-word2 .kept .1 .1 .1 .1 .1 .0 ∙ x .move-word .kept .1 .1 .1 .1 .1 .0 ∙ i .inv .3,
       carried-join l (s .args .back) from (s .args .start .nibble) (n + 1) (n + 2) (now (s .args .to)) _ _ (omega (arith, i .inv .1)) (omega arith)
           (carried-join l (s .args .back) from (s .args .start .nibble) n (n + 1) (now (s .args .to)) _ _ (i .inv .1) (omega arith) (i .inv .4)
-          (carried-one l (s .args .back) from n (i .row) _ _ row (x .move-nibble .ensures)))
-          (rw two at (carried-one l (s .args .back) from (n + 1) (s .args .apart + i .row) _ _ parity (y .move-nibble2 .ensures))),
+          (carried-one l (s .args .back) from n (i .row) _ _ row (x .move-word .ensures)))
+          (rw two at (carried-one l (s .args .back) from (n + 1) (s .args .apart + i .row) _ _ parity (y .move-word2 .ensures))),
     )
 
 same-length : tie.Need-same-length Inv-loop μ-loop
@@ -155,12 +158,13 @@ move-run-spec =
     Inv-loop
     μ-loop
     loop-holds
-    mul-move-nibble
-    move-nibble-requires
-    add-move-nibble
-    add-move-nibble-2
-    mul-move-nibble-2
-    move-nibble-requires-2
+    cast-turn
+    mul-move-word
+    move-word-requires
+    add-move-word
+    add-move-word-2
+    mul-move-word-2
+    move-word-requires-2
     add-nibble
     add-row
     loop-less

@@ -1,12 +1,12 @@
--- `interleaver::move_nibble` meets its contract. Assumes nothing.
+-- `interleaver::move_word` meets its contract. Assumes nothing.
+use mathlib.Core.Path.{ap, _∙_}
+use Prim.Native.Nat.{ℕ, _+_, _-_, _%_}
 use denote.Ref.{now}
+use Rattle.words.specs.Words.{wordByte}
 use Rattle.interleaver.proofs.NibbleLaws.{nibble-out, nibble-back}
 use borrow.Author.Needs.{needs}
-use Rattle.interleaver.proofs.move_nibble.Statement.{statement}
-use Rattle.interleaver.proofs.move_nibble.Tie as tie
-
-cast-turn : tie.Need-cast-turn
-cast-turn c = search needs
+use Rattle.interleaver.proofs.move_word.Statement.{statement}
+use Rattle.interleaver.proofs.move_word.Tie as tie
 
 mul-gather : tie.Need-mul-gather
 mul-gather c = search needs
@@ -41,7 +41,8 @@ returns c =
     let word = c .before .before .before .before .before .gather in
     let x = c .before .before .before .before .turned-back in
     nibble-back (s .args .n) (s .args .first) (s .args .back) (now (s .args .from)) (now (s .args .to)) _ (word .result) (x .result)
-    (c .before .before .before .before .before .before .if1 .taken) (s .pre .3) (word .ensures) (x .ensures) (c .before .before .scatter .ensures)
+    (c .before .before .before .before .before .before .if1 .taken) (s .pre .4) (word .ensures)
+    (λ b h. x .ensures b h ∙ ap (λ (t : ℕ). wordByte (word .result) ((b + t) % 4)) (s .pre .0)) (c .before .before .scatter .ensures)
 
 same-length-2 : tie.Need-same-length-2
 same-length-2 c = search needs
@@ -52,13 +53,13 @@ returns-2 c =
     let word = c .before .before .before .before .before .gather2 in
     let x = c .before .before .before .before .turned in
     nibble-out (s .args .n) (s .args .first) (s .args .back) (now (s .args .from)) (now (s .args .to)) _ (word .result) (x .result)
-    (c .before .before .before .before .before .before .if1 .left) (word .ensures) (x .ensures) (c .before .before .scatter2 .ensures)
+    (c .before .before .before .before .before .before .if1 .left) (word .ensures)
+    (λ b h. x .ensures b h ∙ ap (λ (t : ℕ). wordByte (word .result) ((b + (4 - t)) % 4)) (s .pre .0)) (c .before .before .scatter2 .ensures)
 
-pub move-nibble-spec : {M : Type 1} → statement M
-move-nibble-spec =
+pub move-word-spec : {M : Type 1} → statement M
+move-word-spec =
     tie.close
     (tie.spec
-    cast-turn
     mul-gather
     gather-requires
     turned-back-requires
