@@ -1,2 +1,2 @@
 -- What the contracts of `record_file` cite. Assumes nothing.
-pub mod Numbers
+pub mod Expected

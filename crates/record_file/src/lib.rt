@@ -1,4 +1,4 @@
-// The file of records that `vectors` runs: reading a record, and writing the counts of all.
+// The file of records that `vectors` runs: reading a record, comparing what its call gives with what it expects, and writing the counts.
 //
 // A record is the call, the card, the input, the room of the output, the expected number, the expected value and the expected
 // output. Numbers are big endian. A card, an input and an expected output stand behind their lengths, of two bytes. The call is 0
@@ -8,9 +8,17 @@
 // Internal: nothing here is a public entry. What the system's calls do is assumed, as in every program, and no contract can say what is
 // read or written.
 use libc::STDOUT_FILENO;
+use refusal::Answer;
 ghost use mathlib.Core.Path.{_≡_};
 ghost use Prim.Native.Nat.{_+_, _*_};
-ghost use Rattle.record_file.specs.Numbers.{bigEndian};
+ghost use lib.Ieee.{nanBits, ofBits, binary64};
+ghost use Rattle.refusal.specs.Report.{answer};
+ghost use Rattle.record_file.specs.Expected.{bigEndian, byteAt, wordAt, isAnswer, holdsBytes, holdsWords, hasBits, holdsFloats};
+
+// What each byte of an output is before a call, and eight of them.
+pub const UNTOUCHED: u8 = 0xA5;
+
+pub const UNTOUCHED_WORD: u64 = 0xA5A5A5A5A5A5A5A5;
 
 // A record, without the bytes of its card, input and expected output.
 pub struct Record {
@@ -56,8 +64,8 @@ fn whole(high: u32, low: u32) -> u64
 }
 
 // The number in eight bytes, the highest first.
-pub fn big_endian(b: [u8; 8]) -> u64
-    ensures { λ r. ⌜ r ≡ bigEndian 8 b ⌝ }
+fn big_endian(b: [u8; 8]) -> u64
+    ensures { λ r. ⌜ r ≡ bigEndian 0 8 b ⌝ }
 {
     whole(
         half(pair(b[0], b[1]), pair(b[2], b[3])),
@@ -128,6 +136,121 @@ pub fn read_record(fd: i32, card: &mut [u8], input: &mut [u8], expected: &mut [u
         value,
         output_len,
     })
+}
+
+// Byte i of some bytes, and of an untouched output beyond them.
+pub fn byte_at(s: &[u8], i: usize) -> u8
+    ensures { λ r. ⌜ r ≡ byteAt (now (s .entry)) i ⌝ }
+{
+    if i < s.len() { s[i] } else { UNTOUCHED }
+}
+
+// Word i of some bytes, eight to a word, and of an untouched output beyond them.
+pub fn word_at(s: &[u8], i: usize) -> u64
+    ensures { λ r. ⌜ r ≡ wordAt (now (s .entry)) i ⌝ }
+{
+    if i < s.len() / 8 {
+        let at = 8 * i;
+        return big_endian([
+            s[at],
+            s[at + 1],
+            s[at + 2],
+            s[at + 3],
+            s[at + 4],
+            s[at + 5],
+            s[at + 6],
+            s[at + 7],
+        ]);
+    }
+    UNTOUCHED_WORD
+}
+
+// Whether an answer has the expected number and value, and nothing in the second value.
+pub fn answers(a: Answer, number: u64, value: u64) -> bool
+    ensures { λ r. ⌜ r ≡ isAnswer (answer a) number value ⌝ }
+{
+    let mut values = [UNTOUCHED_WORD; 2];
+    if refusal::report(a, &mut values) as u64 != number {
+        return false;
+    }
+    if values[0] != value {
+        return false;
+    }
+    values[1] == 0
+}
+
+// Whether an output has what is expected at its start and is untouched beyond.
+pub fn holds_bytes(out: &[u8], expected: &[u8]) -> bool
+    ensures { λ r. ⌜ r ≡ holdsBytes (now (out .entry)) (now (expected .entry)) ⌝ }
+{
+    let mut i: usize = 0;
+    while i < out.len() {
+        if out[i] != byte_at(expected, i) {
+            return false;
+        }
+        i += 1;
+    }
+    expected.len() <= out.len()
+}
+
+// The same of words.
+pub fn holds_words(out: &[u64], expected: &[u8]) -> bool
+    ensures { λ r. ⌜ r ≡ holdsWords (now (out .entry)) (now (expected .entry)) ⌝ }
+{
+    let mut i: usize = 0;
+    while i < out.len() {
+        if out[i] != word_at(expected, i) {
+            return false;
+        }
+        i += 1;
+    }
+    expected.len() / 8 <= out.len()
+}
+
+// Whether a float is no NaN, and has some bits.
+fn has_bits(x: f64, bits: u64) -> bool
+    ensures { λ r. ⌜ r ≡ hasBits x bits ⌝ }
+{
+    if x == x {
+        f64::to_bits(x) == bits
+    } else {
+        false
+    }
+}
+
+// The same of floats, whose bits are the words.
+pub fn holds_floats(out: &[f64], expected: &[u8]) -> bool
+    ensures { λ r. ⌜ r ≡ holdsFloats (now (out .entry)) (now (expected .entry)) ⌝ }
+{
+    let mut i: usize = 0;
+    while i < out.len() {
+        if !has_bits(out[i], word_at(expected, i)) {
+            return false;
+        }
+        i += 1;
+    }
+    expected.len() / 8 <= out.len()
+}
+
+// Whether some bits are a NaN's.
+fn is_nan(bits: u64) -> bool
+    ensures { λ r. ⌜ r ≡ nanBits binary64 bits ⌝ }
+{
+    if bits % 9223372036854775808 / 4503599627370496 != 2047 {
+        return false;
+    }
+    bits % 4503599627370496 != 0
+}
+
+// The float of some bits. All NaNs are one.
+pub fn float_of(bits: u64) -> f64
+    ensures { λ r. ⌜ r ≡ ofBits binary64 bits ⌝ }
+{
+    if is_nan(bits) {
+        0.0 / 0.0
+    } else {
+        f64::from_bits(bits)
+    }
 }
 
 fn put(s: &[u8]) {

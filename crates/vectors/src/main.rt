@@ -1,6 +1,5 @@
 // Makes the calls that the file `entries.bin` records, and compares what each gives with what the file expects: the number, what
 // comes with it, and every element of the lent output, also those that the call must leave as they were.
-//
 // `record_file` says what a record is.
 //
 // It prints how many records and mismatches there are of each call and in all. A file that breaks off or has an unknown call is read
@@ -8,19 +7,12 @@
 use record_file::Next;
 use record_file::Record;
 use refusal::Answer;
-ghost use mathlib.Core.Path.{_≡_};
-ghost use lib.Ieee.{nanBits, binary64};
 
 // The most bytes of an input or an expected output, and elements of an output, in a record.
 const MOST: usize = 10000;
 
 // No more records are read from a file.
 const MOST_RECORDS: u64 = 1000000;
-
-// What each byte of an output is before a call, and eight of them.
-const UNTOUCHED: u8 = 0xA5;
-
-const UNTOUCHED_WORD: u64 = 0xA5A5A5A5A5A5A5A5;
 
 // Whether a record is as expected, or why there is none.
 enum Verdict {
@@ -30,109 +22,10 @@ enum Verdict {
     Broken,
 }
 
-// Byte i of some bytes, and of an untouched output beyond them.
-fn byte_at(s: &[u8], i: usize) -> u8 {
-    if i < s.len() { s[i] } else { UNTOUCHED }
-}
-
-// Word i of some bytes, eight to a word, and of an untouched output beyond them.
-fn word_at(s: &[u8], i: usize) -> u64 {
-    if i < s.len() / 8 {
-        let at = 8 * i;
-        return record_file::big_endian([
-            s[at],
-            s[at + 1],
-            s[at + 2],
-            s[at + 3],
-            s[at + 4],
-            s[at + 5],
-            s[at + 6],
-            s[at + 7],
-        ]);
-    }
-    UNTOUCHED_WORD
-}
-
 // The first n bytes, or all where there are fewer.
 fn start(s: &[u8], n: u64) -> &[u8] {
     let count = n as usize;
     if count < s.len() { &s[..count] } else { s }
-}
-
-// Whether an answer has the expected number and value, and nothing in the second value.
-fn answers(a: Answer, number: u64, value: u64) -> bool {
-    let mut values = [UNTOUCHED_WORD; 2];
-    if refusal::report(a, &mut values) as u64 != number {
-        return false;
-    }
-    if values[0] != value {
-        return false;
-    }
-    values[1] == 0
-}
-
-// Whether an output has what is expected at its start and is untouched beyond.
-fn holds_bytes(out: &[u8], expected: &[u8]) -> bool {
-    let mut i: usize = 0;
-    while i < out.len() {
-        if out[i] != byte_at(expected, i) {
-            return false;
-        }
-        i += 1;
-    }
-    expected.len() <= out.len()
-}
-
-// The same of words.
-fn holds_words(out: &[u64], expected: &[u8]) -> bool {
-    let mut i: usize = 0;
-    while i < out.len() {
-        if out[i] != word_at(expected, i) {
-            return false;
-        }
-        i += 1;
-    }
-    expected.len() / 8 <= out.len()
-}
-
-// Whether a float is no NaN, and has some bits.
-fn has_bits(x: f64, bits: u64) -> bool {
-    if x == x {
-        f64::to_bits(x) == bits
-    } else {
-        false
-    }
-}
-
-// The same of floats, whose bits are the words.
-fn holds_floats(out: &[f64], expected: &[u8]) -> bool {
-    let mut i: usize = 0;
-    while i < out.len() {
-        if !has_bits(out[i], word_at(expected, i)) {
-            return false;
-        }
-        i += 1;
-    }
-    expected.len() / 8 <= out.len()
-}
-
-// Whether some bits are a NaN's.
-fn is_nan(bits: u64) -> bool
-    ensures { λ r. ⌜ r ≡ nanBits binary64 bits ⌝ }
-{
-    if bits % 9223372036854775808 / 4503599627370496 != 2047 {
-        return false;
-    }
-    bits % 4503599627370496 != 0
-}
-
-// The float of some bits. All NaNs are one.
-fn float_of(bits: u64) -> f64 {
-    if is_nan(bits) {
-        0.0 / 0.0
-    } else {
-        f64::from_bits(bits)
-    }
 }
 
 // The bits of the coordinates in the card of a slice's record.
@@ -142,10 +35,10 @@ fn coordinates(card: &[u8]) -> &[u8] {
 
 // The answer of a slice.
 fn slice(card: &[u8], out: &mut [u8]) -> Answer {
-    let modulation = byte_at(card, 0);
-    let heard = byte_at(card, 1);
-    let i = float_of(word_at(coordinates(card), 0));
-    let q = float_of(word_at(coordinates(card), 1));
+    let modulation = record_file::byte_at(card, 0);
+    let heard = record_file::byte_at(card, 1);
+    let i = record_file::float_of(record_file::word_at(coordinates(card), 0));
+    let q = record_file::float_of(record_file::word_at(coordinates(card), 1));
     constellation::slice_into(modulation as u64, heard as u64, i, q, out)
 }
 
@@ -164,24 +57,24 @@ fn called(call: u64, card: &[u8], input: &[u8], out: &mut [u8]) -> Answer {
 // Whether the call of a record gives what is expected: one whose output is bytes, a card's fields, or a point.
 fn bytes_agree(r: Record, card: &[u8], input: &[u8], expected: &[u8], out: &mut [u8]) -> bool {
     let answer = called(r.call, card, input, out);
-    if answers(answer, r.number, r.value) {
-        return holds_bytes(out, expected);
+    if record_file::answers(answer, r.number, r.value) {
+        return record_file::holds_bytes(out, expected);
     }
     false
 }
 
 fn fields_agree(r: Record, card: &[u8], expected: &[u8], out: &mut [u64]) -> bool {
     let answer = card::read_fields(card, out);
-    if answers(answer, r.number, r.value) {
-        return holds_words(out, expected);
+    if record_file::answers(answer, r.number, r.value) {
+        return record_file::holds_words(out, expected);
     }
     false
 }
 
 fn point_agrees(r: Record, card: &[u8], input: &[u8], expected: &[u8], out: &mut [f64]) -> bool {
-    let answer = constellation::map_into(byte_at(card, 0) as u64, input, out);
-    if answers(answer, r.number, r.value) {
-        return holds_floats(out, expected);
+    let answer = constellation::map_into(record_file::byte_at(card, 0) as u64, input, out);
+    if record_file::answers(answer, r.number, r.value) {
+        return record_file::holds_floats(out, expected);
     }
     false
 }
@@ -219,14 +112,14 @@ fn agrees(r: Record, card: &[u8], input: &[u8], expected: &[u8]) -> bool {
         return false;
     }
     if r.call == 4 {
-        let mut out = [UNTOUCHED_WORD; MOST];
+        let mut out = [record_file::UNTOUCHED_WORD; MOST];
         return fields_agree(r, card, expected, &mut out[..room]);
     }
     if r.call == 6 {
-        let mut out = [float_of(UNTOUCHED_WORD); MOST];
+        let mut out = [record_file::float_of(record_file::UNTOUCHED_WORD); MOST];
         return point_agrees(r, card, input, expected, &mut out[..room]);
     }
-    let mut out = [UNTOUCHED; MOST];
+    let mut out = [record_file::UNTOUCHED; MOST];
     bytes_agree(r, card, input, expected, &mut out[..room])
 }
 
