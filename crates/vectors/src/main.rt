@@ -1,52 +1,18 @@
 // Makes the calls that the file `entries.bin` records, and compares what each gives with what the file expects: the number, what
 // comes with it, and every element of the lent output, also those that the call must leave as they were.
-//
-// A record is the call, the card, the input, the room of the output, the expected number, the expected value and the expected
-// output. Numbers are big endian. A card, an input and an expected output stand behind their lengths, of two bytes. The call is 0
-// fc_send, 1 fc_read, 2 payload_send, 3 payload_read, 4 card_read, 5 card_text, 6 map or 7 slice. In a map's record the card is the
-// modulation; in a slice's it is the modulation, whether the carrier was heard, and the bits of both coordinates.
+// `record_file` says what a record is.
 //
 // It prints how many records and mismatches there are of each call and in all. A file that breaks off or has an unknown call is read
 // up to that record. Lines above the counts number the records that differ, and one that could not be read, from 0 on.
-use libc::STDOUT_FILENO;
+use record_file::Next;
+use record_file::Record;
 use refusal::Answer;
-ghost use mathlib.Core.Path.{_≡_};
-ghost use lib.Ieee.{nanBits, binary64};
 
 // The most bytes of an input or an expected output, and elements of an output, in a record.
 const MOST: usize = 10000;
 
 // No more records are read from a file.
 const MOST_RECORDS: u64 = 1000000;
-
-// What each byte of an output is before a call, and eight of them.
-const UNTOUCHED: u8 = 0xA5;
-
-const UNTOUCHED_WORD: u64 = 0xA5A5A5A5A5A5A5A5;
-
-// A record, without the bytes of its card, input and expected output.
-struct Record {
-    call: u64,
-    card_len: u64,
-    input_len: u64,
-    room: u64,
-    number: u64,
-    value: u64,
-    output_len: u64,
-}
-
-// What stands next in the file.
-enum Next {
-    Of(Record),
-    End,
-    Broken,
-}
-
-// A number that stands next in the file; none where the file breaks off.
-enum Number {
-    Of(u64),
-    Missing,
-}
 
 // Whether a record is as expected, or why there is none.
 enum Verdict {
@@ -56,202 +22,10 @@ enum Verdict {
     Broken,
 }
 
-fn put(s: &[u8]) {
-    io::write_all(STDOUT_FILENO, s);
-}
-
-fn put_number(n: u64) {
-    io::print_decimal(STDOUT_FILENO, n);
-}
-
-// Two numbers as one of twice the width.
-fn pair(high: u8, low: u8) -> u16 {
-    high as u16 * 256 + low as u16
-}
-
-fn half(high: u16, low: u16) -> u32 {
-    high as u32 * 65536 + low as u32
-}
-
-fn whole(high: u32, low: u32) -> u64 {
-    high as u64 * 4294967296 + low as u64
-}
-
-// The number in eight bytes.
-fn big_endian(b: [u8; 8]) -> u64 {
-    whole(
-        half(pair(b[0], b[1]), pair(b[2], b[3])),
-        half(pair(b[4], b[5]), pair(b[6], b[7])),
-    )
-}
-
-// Byte i of some bytes, and of an untouched output beyond them.
-fn byte_at(s: &[u8], i: usize) -> u8 {
-    if i < s.len() { s[i] } else { UNTOUCHED }
-}
-
-// Word i of some bytes, eight to a word, and of an untouched output beyond them.
-fn word_at(s: &[u8], i: usize) -> u64 {
-    if i < s.len() / 8 {
-        let at = 8 * i;
-        return big_endian([
-            s[at],
-            s[at + 1],
-            s[at + 2],
-            s[at + 3],
-            s[at + 4],
-            s[at + 5],
-            s[at + 6],
-            s[at + 7],
-        ]);
-    }
-    UNTOUCHED_WORD
-}
-
 // The first n bytes, or all where there are fewer.
 fn start(s: &[u8], n: u64) -> &[u8] {
     let count = n as usize;
     if count < s.len() { &s[..count] } else { s }
-}
-
-// Reads a number of `width` bytes, at most eight.
-fn read_number(fd: i32, width: usize) -> Number {
-    if 8 < width {
-        return Number::Missing;
-    }
-    let mut bytes = [0u8; 8];
-    let from = 8 - width;
-    if io::read_full(fd, &mut bytes[from..]) != width {
-        return Number::Missing;
-    }
-    Number::Of(big_endian(bytes))
-}
-
-// Reads a length and as many bytes, and answers the length; it is missing too where there is no room for the bytes.
-fn read_bytes(fd: i32, out: &mut [u8]) -> Number {
-    let Number::Of(length) = read_number(fd, 2) else {
-        return Number::Missing;
-    };
-    let n = length as usize;
-    if out.len() < n {
-        return Number::Missing;
-    }
-    if io::read_full(fd, &mut out[..n]) != n {
-        return Number::Missing;
-    }
-    Number::Of(length)
-}
-
-fn read_record(fd: i32, card: &mut [u8], input: &mut [u8], expected: &mut [u8]) -> Next {
-    let Number::Of(call) = read_number(fd, 1) else {
-        return Next::End;
-    };
-    if 7 < call {
-        return Next::Broken;
-    }
-    let Number::Of(card_len) = read_bytes(fd, card) else {
-        return Next::Broken;
-    };
-    let Number::Of(input_len) = read_bytes(fd, input) else {
-        return Next::Broken;
-    };
-    let Number::Of(room) = read_number(fd, 2) else {
-        return Next::Broken;
-    };
-    let Number::Of(number) = read_number(fd, 1) else {
-        return Next::Broken;
-    };
-    let Number::Of(value) = read_number(fd, 8) else {
-        return Next::Broken;
-    };
-    let Number::Of(output_len) = read_bytes(fd, expected) else {
-        return Next::Broken;
-    };
-    Next::Of(Record {
-        call,
-        card_len,
-        input_len,
-        room,
-        number,
-        value,
-        output_len,
-    })
-}
-
-// Whether an answer has the expected number and value, and nothing in the second value.
-fn answers(a: Answer, number: u64, value: u64) -> bool {
-    let mut values = [UNTOUCHED_WORD; 2];
-    if refusal::report(a, &mut values) as u64 != number {
-        return false;
-    }
-    if values[0] != value {
-        return false;
-    }
-    values[1] == 0
-}
-
-// Whether an output has what is expected at its start and is untouched beyond.
-fn holds_bytes(out: &[u8], expected: &[u8]) -> bool {
-    let mut i: usize = 0;
-    while i < out.len() {
-        if out[i] != byte_at(expected, i) {
-            return false;
-        }
-        i += 1;
-    }
-    expected.len() <= out.len()
-}
-
-// The same of words.
-fn holds_words(out: &[u64], expected: &[u8]) -> bool {
-    let mut i: usize = 0;
-    while i < out.len() {
-        if out[i] != word_at(expected, i) {
-            return false;
-        }
-        i += 1;
-    }
-    expected.len() / 8 <= out.len()
-}
-
-// Whether a float is no NaN, and has some bits.
-fn has_bits(x: f64, bits: u64) -> bool {
-    if x == x {
-        f64::to_bits(x) == bits
-    } else {
-        false
-    }
-}
-
-// The same of floats, whose bits are the words.
-fn holds_floats(out: &[f64], expected: &[u8]) -> bool {
-    let mut i: usize = 0;
-    while i < out.len() {
-        if !has_bits(out[i], word_at(expected, i)) {
-            return false;
-        }
-        i += 1;
-    }
-    expected.len() / 8 <= out.len()
-}
-
-// Whether some bits are a NaN's.
-fn is_nan(bits: u64) -> bool
-    ensures { λ r. ⌜ r ≡ nanBits binary64 bits ⌝ }
-{
-    if bits % 9223372036854775808 / 4503599627370496 != 2047 {
-        return false;
-    }
-    bits % 4503599627370496 != 0
-}
-
-// The float of some bits. All NaNs are one.
-fn float_of(bits: u64) -> f64 {
-    if is_nan(bits) {
-        0.0 / 0.0
-    } else {
-        f64::from_bits(bits)
-    }
 }
 
 // The bits of the coordinates in the card of a slice's record.
@@ -261,10 +35,10 @@ fn coordinates(card: &[u8]) -> &[u8] {
 
 // The answer of a slice.
 fn slice(card: &[u8], out: &mut [u8]) -> Answer {
-    let modulation = byte_at(card, 0);
-    let heard = byte_at(card, 1);
-    let i = float_of(word_at(coordinates(card), 0));
-    let q = float_of(word_at(coordinates(card), 1));
+    let modulation = record_file::byte_at(card, 0);
+    let heard = record_file::byte_at(card, 1);
+    let i = record_file::float_of(record_file::word_at(coordinates(card), 0));
+    let q = record_file::float_of(record_file::word_at(coordinates(card), 1));
     constellation::slice_into(modulation as u64, heard as u64, i, q, out)
 }
 
@@ -283,24 +57,24 @@ fn called(call: u64, card: &[u8], input: &[u8], out: &mut [u8]) -> Answer {
 // Whether the call of a record gives what is expected: one whose output is bytes, a card's fields, or a point.
 fn bytes_agree(r: Record, card: &[u8], input: &[u8], expected: &[u8], out: &mut [u8]) -> bool {
     let answer = called(r.call, card, input, out);
-    if answers(answer, r.number, r.value) {
-        return holds_bytes(out, expected);
+    if record_file::answers(answer, r.number, r.value) {
+        return record_file::holds_bytes(out, expected);
     }
     false
 }
 
 fn fields_agree(r: Record, card: &[u8], expected: &[u8], out: &mut [u64]) -> bool {
     let answer = card::read_fields(card, out);
-    if answers(answer, r.number, r.value) {
-        return holds_words(out, expected);
+    if record_file::answers(answer, r.number, r.value) {
+        return record_file::holds_words(out, expected);
     }
     false
 }
 
 fn point_agrees(r: Record, card: &[u8], input: &[u8], expected: &[u8], out: &mut [f64]) -> bool {
-    let answer = constellation::map_into(byte_at(card, 0) as u64, input, out);
-    if answers(answer, r.number, r.value) {
-        return holds_floats(out, expected);
+    let answer = constellation::map_into(record_file::byte_at(card, 0) as u64, input, out);
+    if record_file::answers(answer, r.number, r.value) {
+        return record_file::holds_floats(out, expected);
     }
     false
 }
@@ -338,14 +112,14 @@ fn agrees(r: Record, card: &[u8], input: &[u8], expected: &[u8]) -> bool {
         return false;
     }
     if r.call == 4 {
-        let mut out = [UNTOUCHED_WORD; MOST];
+        let mut out = [record_file::UNTOUCHED_WORD; MOST];
         return fields_agree(r, card, expected, &mut out[..room]);
     }
     if r.call == 6 {
-        let mut out = [float_of(UNTOUCHED_WORD); MOST];
+        let mut out = [record_file::float_of(record_file::UNTOUCHED_WORD); MOST];
         return point_agrees(r, card, input, expected, &mut out[..room]);
     }
-    let mut out = [UNTOUCHED; MOST];
+    let mut out = [record_file::UNTOUCHED; MOST];
     bytes_agree(r, card, input, expected, &mut out[..room])
 }
 
@@ -361,7 +135,7 @@ fn judged(r: Record, card: &[u8], input: &[u8], expected: &[u8]) -> Verdict {
 
 // Reads the next record and makes its call.
 fn run_record(fd: i32, card: &mut [u8], input: &mut [u8], expected: &mut [u8]) -> Verdict {
-    match read_record(fd, card, input, expected) {
+    match record_file::read_record(fd, card, input, expected) {
         Next::Of(r) => judged(r, card, input, expected),
         Next::End => Verdict::End,
         Next::Broken => Verdict::Broken,
@@ -377,12 +151,6 @@ fn count(counts: &mut [u64; 9], call: u64) {
     }
 }
 
-fn put_line(s: &[u8], n: u64) {
-    put(s);
-    put_number(n);
-    put(b"\n");
-}
-
 // Counts record k, and answers whether to go on.
 fn counted(v: Verdict, k: u64, records: &mut [u64; 9], mismatches: &mut [u64; 9]) -> bool {
     match v {
@@ -393,12 +161,12 @@ fn counted(v: Verdict, k: u64, records: &mut [u64; 9], mismatches: &mut [u64; 9]
         Verdict::Differs(call) => {
             count(records, call);
             count(mismatches, call);
-            put_line(b"differs: record ", k);
+            record_file::put_line(b"differs: record ", k);
             true
         }
         Verdict::End => false,
         Verdict::Broken => {
-            put_line(b"broken: record ", k);
+            record_file::put_line(b"broken: record ", k);
             false
         }
     }
@@ -417,28 +185,7 @@ fn run(fd: i32, records: &mut [u64; 9], mismatches: &mut [u64; 9]) {
         }
         k += 1;
     }
-    put_line(b"not read: record ", k);
-}
-
-fn put_counts(name: &[u8], records: u64, mismatches: u64) {
-    put(name);
-    put_number(records);
-    put(b" records, ");
-    put_number(mismatches);
-    put(b" mismatches\n");
-}
-
-// A line for each call, and one for all.
-fn put_all(records: &[u64; 9], mismatches: &[u64; 9]) {
-    put_counts(b"fc_send ", records[0], mismatches[0]);
-    put_counts(b"fc_read ", records[1], mismatches[1]);
-    put_counts(b"payload_send ", records[2], mismatches[2]);
-    put_counts(b"payload_read ", records[3], mismatches[3]);
-    put_counts(b"card_read ", records[4], mismatches[4]);
-    put_counts(b"card_text ", records[5], mismatches[5]);
-    put_counts(b"map ", records[6], mismatches[6]);
-    put_counts(b"slice ", records[7], mismatches[7]);
-    put_counts(b"", records[8], mismatches[8]);
+    record_file::put_line(b"not read: record ", k);
 }
 
 fn main() {
@@ -452,5 +199,5 @@ fn main() {
     let mut mismatches = [0u64; 9];
     run(fd, &mut records, &mut mismatches);
     libc::close(fd);
-    put_all(&records, &mismatches);
+    record_file::put_all(&records, &mismatches);
 }

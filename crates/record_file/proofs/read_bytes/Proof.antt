@@ -1,10 +1,10 @@
--- `vectors::read_bytes` is safe: the bytes are read to a part of the memory. Assumes nothing.
+-- `record_file::read_bytes` is safe: the bytes are read to a part of the memory. Assumes nothing.
 use mathlib.Core.Path.{sym}
 use native.Mathlib.Omega.{arith}
 use lib.Seq.{length-take-le}
 use borrow.Author.Needs.{needs}
-use Rattle.vectors.proofs.read_bytes.Statement.{statement}
-use Rattle.vectors.proofs.read_bytes.Tie as tie
+use Rattle.record_file.proofs.read_bytes.Statement.{statement}
+use Rattle.record_file.proofs.read_bytes.Tie as tie
 
 read-number-requires : tie.Need-read-number-requires
 read-number-requires c κs = search needs

@@ -1,8 +1,8 @@
--- `vectors::is_nan` meets its contract. Assumes nothing.
+-- `record_file::is_nan` meets its contract. Assumes nothing.
 use lib.Ieee.{nanBits}
 use borrow.Author.Tests.{eq-eqb, ne-eqb}
-use Rattle.vectors.proofs.is_nan.Statement.{statement}
-use Rattle.vectors.proofs.is_nan.Tie as tie
+use Rattle.record_file.proofs.is_nan.Statement.{statement}
+use Rattle.record_file.proofs.is_nan.Tie as tie
 
 returns : tie.Need-returns
 unfolding nanBits

@@ -1,0 +1,2 @@
+-- The laws of what `record_file` defines. Assumes nothing.
+pub mod ExpectedLaws
