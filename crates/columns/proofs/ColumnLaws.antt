@@ -146,8 +146,3 @@ unrowed-lt h e binary k l =
     let r : k % h < h = mod-lt k pos in
     let q : k / h < 4 = div-lt-iff-lt-mul {k = h} pos .1 l in
     binary (k % h * 4 + k / h) (omega arith)
-
--- the bytes of bits that the columns hold
-pub bytes-of : (n : ℕ) (d e : ℕ → ℕ) (out : List ℕ) → ((i : ℕ) → i < 8 * n → d i ≡ e i) → written n (byteOf d) out ≡ written n (byteOf e) out
-unfolding byteOf
-bytes-of n d e out same = written-ext n _ _ out (λ k h. pack-ext 8 _ _ (λ j b. same (8 * k + j) (omega arith)))

@@ -98,14 +98,14 @@ module _ (kind rate high low : ℕ) (D : Defined kind rate) (eh : high ≡ dataH
     abbrev in-rows : ℕ → ℕ
     in-rows j = sourceBit kind rate taps (bitOf bytes) (rowSource kind rate j)
 
-    data-rowed : (j : ℕ) → j < 4 * high → rowed (high) (bitOf bytes) j ≡ in-rows j
+    data-rowed : (j : ℕ) → j < 4 * high → rowed high (bitOf bytes) j ≡ in-rows j
     unfolding rowed
     data-rowed j h =
         sym (ap (sourceBit kind rate taps (bitOf bytes)) (source-in-data j h)
         ∙ source-data kind rate taps (bitOf bytes) (j % 4 * high + j / 4) (omega (arith, filled-lt j (high) (omega arith))))
 
     parity-rowed : (part : List ℕ) → ((i : ℕ) → i < keptCount kind rate → bitOf part i ≡ keptBit kind rate taps (bitOf bytes) i) → (j : ℕ)
-        → j < 4 * low → rowed (low) (bitOf part) j ≡ in-rows (4 * high + j)
+        → j < 4 * low → rowed low (bitOf part) j ≡ in-rows (4 * high + j)
     unfolding rowed
     parity-rowed part held j h =
         let i : ℕ = j % 4 * low + j / 4 in
@@ -127,12 +127,12 @@ module _ (kind rate high low : ℕ) (D : Defined kind rate) (eh : high ≡ dataH
 
     -- data rows and then parity rows
     pub rows-written : (out now part rest : List ℕ) → ((i : ℕ) → i < keptCount kind rate → bitOf part i ≡ keptBit kind rate taps (bitOf bytes) i)
-        → now ≡ written (4 * high) (rowed (high) (bitOf bytes)) out
-        → rest ≡ written (4 * low) (rowed (low) (bitOf part)) (take (length now - 4 * high) (drop (4 * high) now))
+        → now ≡ written (4 * high) (rowed high (bitOf bytes)) out
+        → rest ≡ written (4 * low) (rowed low (bitOf part)) (take (length now - 4 * high) (drop (4 * high) now))
         → take (4 * high) now ++ (rest ++ drop (length now - 4 * high) (drop (4 * high) now)) ≡ written (codedBits kind rate) in-rows out
     rows-written out now part rest held e d =
-        written-part (4 * high) (4 * low) in-rows (rowed (low) (bitOf part)) out now rest
-        (e ∙ written-ext (4 * high) (rowed (high) (bitOf bytes)) in-rows out data-rowed) (parity-rowed part held) d
+        written-part (4 * high) (4 * low) in-rows (rowed low (bitOf part)) out now rest
+        (e ∙ written-ext (4 * high) (rowed high (bitOf bytes)) in-rows out data-rowed) (parity-rowed part held) d
         ∙ ap (λ (n : ℕ). written n in-rows out) all-rows
 
     -- the rows in the interleaver's order are the coded bits
@@ -168,23 +168,22 @@ module _ (kind rate high low : ℕ) (D : Defined kind rate) (eh : high ≡ dataH
     pub data-rows-binary : Binary (codedBits kind rate) decidedAt → (j : ℕ) → j < 4 * high → getD (take (4 * high) rows) j 0 < 2
     data-rows-binary b j h = rw (getD-take (4 * high) rows j 0 h) (row-binary b j (omega (arith, all-rows)))
 
-    data-unrowed : (k : ℕ) → k < dataBits kind → unrowed (high) (λ j. getD (take (4 * high) rows) j 0) k ≡ dataBit kind rate decidedAt k
+    data-unrowed : (k : ℕ) → k < dataBits kind → unrowed high (λ j. getD (take (4 * high) rows) j 0) k ≡ dataBit kind rate decidedAt k
     unfolding unrowed dataBit
     data-unrowed k h =
-        let H : ℕ = high in
-        let c : k / H < 4 = column-lt k H (data-served .0) (omega arith) in
-        let r : k % H < H = mod-lt k (data-served .0) in
-        let j : ℕ = k % H * 4 + k / H in
-        let l : j < 4 * H = omega arith in
-        getD-take (4 * H) rows j 0 l
+        let c : k / high < 4 = column-lt k high (data-served .0) (omega arith) in
+        let r : k % high < high = mod-lt k (data-served .0) in
+        let j : ℕ = k % high * 4 + k / high in
+        let l : j < 4 * high = omega arith in
+        getD-take (4 * high) rows j 0 l
         ∙ row-held j (omega (arith, all-rows))
-        ∙ ap (λ (s : ℕ). decidedAt (codedAt kind rate s)) (source-in-data j l ∙ place-back k H c)
+        ∙ ap (λ (s : ℕ). decidedAt (codedAt kind rate s)) (source-in-data j l ∙ place-back k high c)
 
-    pub block-written : (block : List ℕ) → written (high / 2) (byteOf (unrowed (high) (λ j. getD (take (4 * high) rows) j 0))) block
+    pub block-written : (block : List ℕ) → written (high / 2) (byteOf (unrowed high (λ j. getD (take (4 * high) rows) j 0))) block
         ≡ written (blockBytes kind) (byteOf (dataBit kind rate decidedAt)) block
     block-written block =
         let n : high / 2 ≡ blockBytes kind = omega arith in
-        ap (λ (m : ℕ). written m (byteOf (unrowed (high) (λ j. getD (take (4 * high) rows) j 0))) block) n
+        ap (λ (m : ℕ). written m (byteOf (unrowed high (λ j. getD (take (4 * high) rows) j 0))) block) n
         ∙ bytes-ext (blockBytes kind) _ (dataBit kind rate decidedAt) data-unrowed block
 
     -- the parity rows
@@ -201,20 +200,19 @@ module _ (kind rate high low : ℕ) (D : Defined kind rate) (eh : high ≡ dataH
     pub parity-rows-binary : Binary (codedBits kind rate) decidedAt → (j : ℕ) → j < 4 * low → getD parityRows j 0 < 2
     parity-rows-binary b j h = rw (parity-row j h) (row-binary b (4 * high + j) (omega (arith, all-rows)))
 
-    parity-unrowed : (k : ℕ) → k < keptCount kind rate → unrowed (low) (λ j. getD parityRows j 0) k ≡ parityBit kind rate decidedAt k
+    parity-unrowed : (k : ℕ) → k < keptCount kind rate → unrowed low (λ j. getD parityRows j 0) k ≡ parityBit kind rate decidedAt k
     unfolding unrowed parityBit
     parity-unrowed k h =
-        let P : ℕ = low in
-        let c : k / P < 4 = column-lt k P (parity-served .0) (omega (arith, kept-rows)) in
-        let r : k % P < P = mod-lt k (parity-served .0) in
-        let j : ℕ = k % P * 4 + k / P in
-        let l : j < 4 * P = omega arith in
+        let c : k / low < 4 = column-lt k low (parity-served .0) (omega (arith, kept-rows)) in
+        let r : k % low < low = mod-lt k (parity-served .0) in
+        let j : ℕ = k % low * 4 + k / low in
+        let l : j < 4 * low = omega arith in
         parity-row j l
         ∙ row-held (4 * high + j) (omega (arith, all-rows))
-        ∙ ap (λ (s : ℕ). decidedAt (codedAt kind rate s)) (source-in-parity j ∙ ap (_+_ (dataBits kind)) (place-back k P c))
+        ∙ ap (λ (s : ℕ). decidedAt (codedAt kind rate s)) (source-in-parity j ∙ ap (_+_ (dataBits kind)) (place-back k low c))
 
-    pub parity-written : (parity : List ℕ) → written (low / 2) (byteOf (unrowed (low) (λ j. getD parityRows j 0))) parity
+    pub parity-written : (parity : List ℕ) → written (low / 2) (byteOf (unrowed low (λ j. getD parityRows j 0))) parity
         ≡ written (keptCount kind rate / 8) (byteOf (parityBit kind rate decidedAt)) parity
     parity-written parity =
-        ap (λ (m : ℕ). written m (byteOf (unrowed (low) (λ j. getD parityRows j 0))) parity) (sym (kept-bytes .0))
+        ap (λ (m : ℕ). written m (byteOf (unrowed low (λ j. getD parityRows j 0))) parity) (sym (kept-bytes .0))
         ∙ bytes-ext (keptCount kind rate / 8) _ (parityBit kind rate decidedAt) (λ k h. parity-unrowed k (omega (arith, kept-bytes .1))) parity

@@ -6,7 +6,8 @@ use native.Mathlib.Omega.{arith}
 use lib.ListN.{getD}
 use Rattle.bits.proofs.ListLaws.{getD-written}
 use Rattle.columns.specs.Columns.{unrowed}
-use Rattle.columns.proofs.ColumnLaws.{unrowed-lt, bytes-of}
+use Rattle.bits.proofs.BitLaws.{bytes-ext}
+use Rattle.columns.proofs.ColumnLaws.{unrowed-lt}
 use borrow.Author.Needs.{needs}
 use Rattle.columns.proofs.columns_by_bits.Statement.{statement}
 use Rattle.columns.proofs.columns_by_bits.Tie as tie
@@ -40,7 +41,7 @@ returns : tie.Need-returns
 returns c =
     let a = c .before .before .before .before .before .before .before .before .before .before .args in
     c .before .before .pack .ensures
-    ∙ bytes-of (a .height / 2) _ (unrowed (a .height) (λ j. getD (a .rows .now) j 0)) (a .out .now) (λ i h. held (c .before .before .before .before .before .before) i (omega arith))
+    ∙ bytes-ext (a .height / 2) _ (unrowed (a .height) (λ j. getD (a .rows .now) j 0)) (λ i h. held (c .before .before .before .before .before .before) i (omega arith)) (a .out .now)
 
 pub columns-by-bits-spec : {M : Type 1} → statement M
 columns-by-bits-spec =
