@@ -32,6 +32,40 @@ pub struct Fields {
     pub serial: u64,
 }
 
+/// How many fields a card has.
+pub const CARD_FIELDS: usize = 8;
+
+impl Fields {
+    /// The fields in the order in which a card holds them.
+    pub const fn to_array(&self) -> [u64; CARD_FIELDS] {
+        [
+            self.version,
+            self.band,
+            self.kind,
+            self.rate,
+            self.modulation,
+            self.taps,
+            self.spare,
+            self.serial,
+        ]
+    }
+
+    /// The reverse of `to_array`.
+    pub const fn from_array(fields: [u64; CARD_FIELDS]) -> Fields {
+        let [version, band, kind, rate, modulation, taps, spare, serial] = fields;
+        Fields {
+            version,
+            band,
+            kind,
+            rate,
+            modulation,
+            taps,
+            spare,
+            serial,
+        }
+    }
+}
+
 /// "Defined modes": band 0 or 1; kind 0 to 4; modulation 0 to 2; rate 1 only with kind 4; kind 0
 /// only with QPSK. A value too large for its bits is never part of a defined mode.
 fn mode_is_defined(band: u64, kind: u64, rate: u64, modulation: u64) -> bool {
@@ -71,8 +105,8 @@ fn unpack(card: &[u8; CARD_BYTES]) -> Fields {
     }
 }
 
-/// Puts fields that fit into eleven bytes.
-fn pack(fields: &Fields) -> [u8; CARD_BYTES] {
+/// Puts fields that fit their bits into eleven bytes, whatever they say.
+pub fn pack(fields: &Fields) -> [u8; CARD_BYTES] {
     let head = fields.version << 20
         | fields.band << 18
         | fields.kind << 15

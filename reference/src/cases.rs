@@ -66,6 +66,18 @@ impl Random {
     }
 }
 
+/// The example card of 01.
+pub const EXAMPLE: Fields = Fields {
+    version: 1,
+    band: 0,
+    kind: 4,
+    rate: 1,
+    modulation: 1,
+    taps: 0b10001000111,
+    spare: 0,
+    serial: 9_007_199_254_740_993,
+};
+
 /// A defined mode.
 #[derive(Clone, Copy, Debug, PartialEq, Eq)]
 pub struct Mode {
@@ -108,8 +120,9 @@ impl Mode {
         }
     }
 
-    pub fn card(&self, taps: u16, serial: u64) -> [u8; CARD_BYTES] {
-        let fields = Fields {
+    /// The fields of the mode's card.
+    pub fn fields(&self, taps: u16, serial: u64) -> Fields {
+        Fields {
             version: 1,
             band: self.band.into(),
             kind: self.kind.into(),
@@ -118,11 +131,22 @@ impl Mode {
             taps: taps.into(),
             spare: 0,
             serial,
-        };
+        }
+    }
+
+    pub fn card(&self, taps: u16, serial: u64) -> [u8; CARD_BYTES] {
         let mut card = [0; CARD_BYTES];
-        let report = card::write(&fields, &mut card);
+        let report = card::write(&self.fields(taps, serial), &mut card);
         assert_eq!(report, Report::done(CARD_BYTES), "{self:?} taps {taps}");
         card
+    }
+
+    pub const fn rate_name(&self) -> &'static str {
+        ["1/2", "16/18"][self.rate as usize]
+    }
+
+    pub const fn modulation_name(&self) -> &'static str {
+        ["BPSK", "QPSK", "16QAM"][self.modulation as usize]
     }
 
     /// The entry that sends and the one that reads.
@@ -250,17 +274,21 @@ impl Reception {
         }
     }
 
-    /// Of a coded bit's copies so many wrong and so many lost, no copy being both.
-    pub fn damage_bit(&mut self, bit: usize, wrong: usize, lost: usize, random: &mut Random) {
-        let copies = self.mode.copies(bit);
-        let hit = random.some_of(&copies, wrong + lost);
-        for (n, item) in hit.into_iter().enumerate() {
+    /// The first so many of the items wrong, the others lost.
+    pub fn damage_items(&mut self, items: &[usize], wrong: usize) {
+        for (n, &item) in items.iter().enumerate() {
             if n < wrong {
                 self.spoil(item);
             } else {
                 self.lose(item);
             }
         }
+    }
+
+    /// Of a coded bit's copies so many wrong and so many lost, no copy being both.
+    pub fn damage_bit(&mut self, bit: usize, wrong: usize, lost: usize, random: &mut Random) {
+        let copies = self.mode.copies(bit);
+        self.damage_items(&random.some_of(&copies, wrong + lost), wrong);
     }
 
     /// A coded bit with as many copies wrong as right, and at most one lost.

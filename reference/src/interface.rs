@@ -1,14 +1,13 @@
 //! The calls of the C interface (hplc.h) over this reference. Lent buffers are
 //! slices; what the C side stores behind `value` comes back in the report.
 
+pub use crate::card::CARD_FIELDS;
 use crate::card::{self, Fields};
 use crate::carriers::{self, Place, SubCarrier};
 use crate::entries;
 use crate::points::{self, Received};
 use crate::{number, Report};
 
-/// How many fields a card has.
-pub const CARD_FIELDS: usize = 8;
 /// How many coordinates a point has.
 pub const COORDINATES: usize = 2;
 
@@ -56,18 +55,7 @@ pub fn card_read(card: &[u8], fields: &mut [u64]) -> Report {
 
 /// `hplc_card_write`, its fields in the order of `card_read`.
 pub fn card_write(fields: &[u64; CARD_FIELDS], out: &mut [u8]) -> Report {
-    let [version, band, kind, rate, modulation, taps, spare, serial] = *fields;
-    let fields = Fields {
-        version,
-        band,
-        kind,
-        rate,
-        modulation,
-        taps,
-        spare,
-        serial,
-    };
-    card::write(&fields, out)
+    card::write(&Fields::from_array(*fields), out)
 }
 
 /// `hplc_card_text`.

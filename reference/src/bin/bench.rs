@@ -179,17 +179,14 @@ fn print_table(repetitions: usize) -> bool {
 }
 
 fn print_row(timed: &Timed, times: &Times) {
-    let Mode {
-        band,
-        kind,
-        rate,
-        modulation,
-    } = timed.mode;
+    let mode = timed.mode;
     println!(
-        "{:17} {band:4} {kind:4} {:>5} {:10} {:8.0} {:12.0} {:6.2} {:8.0}",
+        "{:17} {:4} {:4} {:>5} {:10} {:8.0} {:12.0} {:6.2} {:8.0}",
         timed.entry.name(),
-        ["1/2", "16/18"][usize::from(rate)],
-        ["BPSK", "QPSK", "16QAM"][usize::from(modulation)],
+        mode.band,
+        mode.kind,
+        mode.rate_name(),
+        mode.modulation_name(),
         times.core,
         times.reference,
         times.core / times.reference,

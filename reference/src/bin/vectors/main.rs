@@ -1,9 +1,11 @@
 //! Test vectors.
 //!
 //! `vectors turbo`, `interleaver`, `points` or `scrambler` prints text. `vectors entries DIR`
-//! writes the file entries.bin, and `vectors show FILE` prints such a file, a line for each record.
+//! writes the files entries.bin and entries.txt, and `vectors show FILE` prints such a file of
+//! records, a line for each.
 
 mod entries;
+mod labelled;
 mod record;
 mod text;
 
@@ -16,13 +18,15 @@ const USAGE: &str = "usage: vectors turbo|interleaver|points|scrambler
        vectors entries DIR
        vectors show FILE";
 
-/// Writes entries.bin into a folder, and says how much there is.
+/// Writes entries.bin and entries.txt into a folder, and says how much there is.
 fn write_entries(folder: &str, out: &mut impl Write) -> io::Result<()> {
     let records = entries::records();
     let bytes = record::to_bytes(&records);
-    let file = Path::new(folder).join("entries.bin");
+    let folder = Path::new(folder);
+    let file = folder.join("entries.bin");
     fs::create_dir_all(folder)?;
     fs::write(&file, &bytes)?;
+    fs::write(folder.join("entries.txt"), record::printed(&records))?;
     let (name, count) = (file.display(), records.len());
     writeln!(out, "{name}: {count} records, {} bytes", bytes.len())
 }

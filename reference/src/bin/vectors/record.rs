@@ -1,36 +1,11 @@
-//! The format of entries.bin.
-//!
-//! The file is a sequence of records up to its end, without a header. All numbers are unsigned and
-//! big endian. A record is
-//!
-//! | Bytes | What |
-//! |---|---|
-//! | 1 | call: 0 fc_send, 1 fc_read, 2 payload_send, 3 payload_read, 4 card_read, 5 card_text, 6 map, 7 slice |
-//! | 2 | length of the card, at most 64 |
-//! | .. | the card |
-//! | 2 | length of the input, at most 10,000 |
-//! | .. | the input |
-//! | 2 | room: the length of the output that is lent, in the call's elements, at most 10,000 |
-//! | 1 | expected number |
-//! | 8 | expected value, value[0]; value[1] is always 0 |
-//! | 2 | length in bytes of the expected output, at most 10,000; 0 on a refusal |
-//! | .. | the expected output |
-//!
-//! - card_read: no input; the room counts fields, and the output is 8 fields of 8 bytes each.
-//! - card_text: no input; the output is the text.
-//! - map: the card is one byte, the modulation; the input is the bits; the room counts coordinates,
-//!   and the output is the bits of the f64 numbers I and Q, 8 bytes each.
-//! - slice: the card is 18 bytes, one for the modulation, one for `heard` and 8 each for the bits of
-//!   the f64 numbers I and Q; no input; the output is the items.
-//!
-//! Elements of the lent output beyond the expected ones, and all of them on a refusal, keep what
-//! they held.
+//! The format of entries.bin, which README.md describes.
 
 use std::fmt::{self, Display, Formatter};
 
-use reference::interface::{self, Entry};
+use reference::interface::{self, Entry, CARD_FIELDS};
 use reference::Report;
 
+pub const MAX_LABEL: usize = 80;
 pub const MAX_CARD: usize = 64;
 pub const MAX_INPUT: usize = 10_000;
 pub const MAX_OUTPUT: usize = 10_000;
@@ -43,10 +18,11 @@ pub enum Call {
     CardText,
     Map,
     Slice,
+    CardWrite,
 }
 
 impl Call {
-    const ALL: [Call; 8] = [
+    pub const ALL: [Call; 9] = [
         Call::Entry(Entry::FcSend),
         Call::Entry(Entry::FcRead),
         Call::Entry(Entry::PayloadSend),
@@ -55,27 +31,30 @@ impl Call {
         Call::CardText,
         Call::Map,
         Call::Slice,
+        Call::CardWrite,
     ];
 
-    fn number(self) -> u8 {
+    pub fn number(self) -> u8 {
         let place = Call::ALL.iter().position(|&call| call == self);
         place.map_or(u8::MAX, |number| number as u8)
     }
 
     fn name(self) -> &'static str {
         match self {
-            Call::Entry(entry) => entry.name(),
-            Call::CardRead => "hplc_card_read",
-            Call::CardText => "hplc_card_text",
-            Call::Map => "hplc_map",
-            Call::Slice => "hplc_slice",
+            Call::Entry(entry) => entry.name().trim_start_matches("hplc_"),
+            Call::CardRead => "card_read",
+            Call::CardText => "card_text",
+            Call::Map => "map",
+            Call::Slice => "slice",
+            Call::CardWrite => "card_write",
         }
     }
 }
 
-/// A call and its right answer.
+/// A call and its right answer. The label is empty where nobody looks for the record by name.
 #[derive(Clone, Debug, PartialEq, Eq)]
 pub struct Record {
+    pub label: String,
     pub call: Call,
     pub card: Vec<u8>,
     pub input: Vec<u8>,
@@ -85,10 +64,14 @@ pub struct Record {
     pub output: Vec<u8>,
 }
 
-/// The bits of a coordinate that starts at a byte of a slice's card.
-fn coordinate(card: &[u8], at: usize) -> f64 {
-    let bits = card[at..at + 8].iter();
-    f64::from_bits(bits.fold(0, |bits, &byte| bits << 8 | u64::from(byte)))
+/// The number of 8 bytes that starts at a byte of a card.
+fn number_at(card: &[u8], at: usize) -> u64 {
+    number_of(&card[at..at + 8])
+}
+
+fn number_of(bytes: &[u8]) -> u64 {
+    let bytes = bytes.iter();
+    bytes.fold(0, |number, &byte| number << 8 | u64::from(byte))
 }
 
 /// The call by the reference, on an output of zeros. Gives the report and the written bytes.
@@ -101,8 +84,12 @@ fn answer(call: Call, card: &[u8], input: &[u8], room: usize) -> (Report, Vec<u8
         Call::CardText => interface::card_text(card, &mut bytes),
         Call::Map => interface::map(card[0].into(), input, &mut words),
         Call::Slice => {
-            let (i, q) = (coordinate(card, 2), coordinate(card, 10));
+            let [i, q] = [2, 10].map(|at| f64::from_bits(number_at(card, at)));
             interface::slice(card[0].into(), card[1].into(), i, q, &mut bytes)
+        }
+        Call::CardWrite => {
+            let fields: [u64; CARD_FIELDS] = std::array::from_fn(|n| number_at(card, 8 * n));
+            interface::card_write(&fields, &mut bytes)
         }
     };
     let written = if report.number == 0 {
@@ -122,9 +109,10 @@ fn answer(call: Call, card: &[u8], input: &[u8], room: usize) -> (Report, Vec<u8
 
 impl Record {
     /// A record with the answer of the reference.
-    pub fn new(call: Call, card: &[u8], input: &[u8], room: usize) -> Record {
+    pub fn new(label: &str, call: Call, card: &[u8], input: &[u8], room: usize) -> Record {
         let (report, output) = answer(call, card, input, room);
         let record = Record {
+            label: label.to_string(),
             call,
             card: card.to_vec(),
             input: input.to_vec(),
@@ -138,13 +126,17 @@ impl Record {
     }
 
     fn fits(&self) -> bool {
-        self.card.len() <= MAX_CARD
+        self.label.len() <= MAX_LABEL
+            && self.label.bytes().all(|byte| (b' '..=b'~').contains(&byte))
+            && self.card.len() <= MAX_CARD
             && self.input.len() <= MAX_INPUT
             && self.room <= MAX_OUTPUT
             && self.output.len() <= MAX_OUTPUT
     }
 
     fn append_to(&self, bytes: &mut Vec<u8>) {
+        bytes.push(self.label.len() as u8);
+        bytes.extend(self.label.as_bytes());
         bytes.push(self.call.number());
         append_with_length(bytes, &self.card);
         append_with_length(bytes, &self.input);
@@ -156,7 +148,9 @@ impl Record {
 
     /// Takes a record off the front of the bytes.
     fn take_from(bytes: &mut &[u8]) -> Option<Record> {
+        let label = take_number(bytes, 1)? as usize;
         let record = Record {
+            label: String::from_utf8(take(bytes, label)?.to_vec()).ok()?,
             call: *Call::ALL.get(take_number(bytes, 1)? as usize)?,
             card: take_with_length(bytes)?,
             input: take_with_length(bytes)?,
@@ -181,8 +175,7 @@ fn take<'a>(bytes: &mut &'a [u8], length: usize) -> Option<&'a [u8]> {
 }
 
 fn take_number(bytes: &mut &[u8], length: usize) -> Option<u64> {
-    let part = take(bytes, length)?.iter();
-    Some(part.fold(0, |number, &byte| number << 8 | u64::from(byte)))
+    take(bytes, length).map(number_of)
 }
 
 fn take_with_length(bytes: &mut &[u8]) -> Option<Vec<u8>> {
@@ -208,6 +201,19 @@ pub fn from_bytes(mut bytes: &[u8]) -> Option<Vec<Record>> {
     Some(records)
 }
 
+/// What a program that finds no mismatch prints of the records.
+pub fn printed(records: &[Record]) -> String {
+    let mut text = String::new();
+    for record in records.iter().filter(|record| !record.label.is_empty()) {
+        text += &format!("{}: {} {}\n", record.label, record.number, record.value);
+    }
+    for call in Call::ALL {
+        let count = records.iter().filter(|record| record.call == call).count();
+        text += &format!("{} {count} records, 0 mismatches\n", call.name());
+    }
+    text + &format!("{} records, 0 mismatches\n", records.len())
+}
+
 /// The first bytes in hexadecimal digits, and how many there are.
 fn beginning(bytes: &[u8]) -> String {
     const SHOWN: usize = 24;
@@ -221,6 +227,9 @@ impl Display for Record {
         let (card, input) = (beginning(&self.card), beginning(&self.input));
         let (name, room, number, value) = (self.call.name(), self.room, self.number, self.value);
         let output = beginning(&self.output);
+        if !self.label.is_empty() {
+            write!(f, "{}: ", self.label)?;
+        }
         write!(
             f,
             "{name} card {card} input {input} room {room} gives {number} {value} {output}"
@@ -231,20 +240,24 @@ impl Display for Record {
 #[cfg(test)]
 mod tests {
     use super::*;
-    use reference::interface::{CARD_FIELDS, COORDINATES};
+    use reference::card::pack;
+    use reference::cases::EXAMPLE;
+    use reference::interface::COORDINATES;
 
     #[test]
     fn a_record_is_as_the_table_says() {
-        let record = Record::new(Call::Map, &[0], &[1], 3);
-        let mut bytes = vec![6, 0, 1, 0, 0, 1, 1, 0, 3, 0];
+        let record = Record::new("", Call::Map, &[0], &[1], 3);
+        let mut bytes = vec![0, 6, 0, 1, 0, 0, 1, 1, 0, 3, 0];
         bytes.extend(2u64.to_be_bytes());
         bytes.extend([0, 16]);
         bytes.extend(1f64.to_bits().to_be_bytes());
         bytes.extend([0; 8]);
         assert_eq!(to_bytes(&[record]), bytes);
 
-        let record = Record::new(Call::CardRead, &[1; 10], &[], CARD_FIELDS);
-        let mut bytes = vec![4, 0, 10, 1, 1, 1, 1, 1, 1, 1, 1, 1, 1, 0, 0, 0, 8, 1];
+        let record = Record::new("ten", Call::CardRead, &[1; 10], &[], CARD_FIELDS);
+        let mut bytes = vec![
+            3, b't', b'e', b'n', 4, 0, 10, 1, 1, 1, 1, 1, 1, 1, 1, 1, 1, 0, 0, 0, 8, 1,
+        ];
         bytes.extend([0, 0, 0, 0, 0, 0, 0, 10, 0, 0]);
         assert_eq!(to_bytes(&[record]), bytes);
     }
@@ -254,13 +267,49 @@ mod tests {
         let mut card = vec![1, 1];
         card.extend((-0.5f64).to_bits().to_be_bytes());
         card.extend(f64::NAN.to_bits().to_be_bytes());
-        let record = Record::new(Call::Slice, &card, &[], COORDINATES);
+        let record = Record::new("", Call::Slice, &card, &[], COORDINATES);
         assert_eq!(record.output, [0, 2]);
     }
 
     #[test]
+    fn writing_takes_its_fields_from_the_card() {
+        let card = EXAMPLE.to_array().map(u64::to_be_bytes).concat();
+        let record = Record::new("", Call::CardWrite, &card, &[], 11);
+        assert_eq!(record.output, pack(&EXAMPLE));
+    }
+
+    #[test]
+    fn labelled_records_are_printed_before_the_counts() {
+        let records = [
+            Record::new("two", Call::Map, &[1], &[1, 0], 2),
+            Record::new("", Call::Map, &[1], &[1], 2),
+            Record::new("ten", Call::CardRead, &[1; 10], &[], 0),
+        ];
+        let text = printed(&records);
+        let lines: Vec<&str> = text.lines().collect();
+        assert_eq!(lines[..2], ["two: 0 2", "ten: 1 10"]);
+        assert_eq!(lines[2], "fc_send 0 records, 0 mismatches");
+        assert_eq!(lines[6], "card_read 1 records, 0 mismatches");
+        assert_eq!(lines[8], "map 2 records, 0 mismatches");
+        assert_eq!(lines[11..], ["3 records, 0 mismatches"]);
+    }
+
+    #[test]
+    fn labels_are_short_and_printable() {
+        let mut record = Record::new("", Call::Map, &[1], &[1, 0], 2);
+        for (label, fits) in [
+            ("a".repeat(80), true),
+            ("a".repeat(81), false),
+            ("a\n".into(), false),
+        ] {
+            record.label = label;
+            assert_eq!(from_bytes(&to_bytes(&[record.clone()])).is_some(), fits);
+        }
+    }
+
+    #[test]
     fn cut_files_are_no_records() {
-        let bytes = to_bytes(&[Record::new(Call::Map, &[1], &[1, 0], 2)]);
+        let bytes = to_bytes(&[Record::new("", Call::Map, &[1], &[1, 0], 2)]);
         assert_eq!(from_bytes(&bytes).map(|records| records.len()), Some(1));
         for length in 1..bytes.len() {
             assert_eq!(from_bytes(&bytes[..length]), None);
