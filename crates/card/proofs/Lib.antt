@@ -1,4 +1,5 @@
 -- What the proofs of `card` share, and its theorems. Assumes nothing.
+pub mod ModeLaws
 pub mod CardLaws
 pub mod WriteLaws
 pub mod RoundTrip

@@ -1,6 +1,7 @@
--- What goes by a card's kind and modulation. Assumes nothing.
+-- What goes by a card's kind, rate and modulation. Assumes nothing.
 use mathlib.Core.List.{[], _∷_}
-use Prim.Native.Nat.{ℕ}
+use mathlib.Core.Path.{_≡_}
+use Prim.Native.Nat.{ℕ, _<_}
 use lib.ListN.{getD}
 
 -- the bytes of a block by its kind, 0 to 4; kind 0 is frame control
@@ -10,3 +11,9 @@ blockBytes kind = getD (16 ∷ 72 ∷ 136 ∷ 264 ∷ 520 ∷ []) kind 0
 -- the bits on a carrier by the modulation: 0 BPSK, 1 QPSK, 2 16QAM
 abbrev pub carrierBits : ℕ → ℕ
 carrierBits modulation = getD (1 ∷ 2 ∷ 4 ∷ []) modulation 0
+
+-- the kinds and rates that are defined: kinds 0 to 4 at rate 0 (1/2), and kind 4 alone at rate 1 (16/18)
+pub record Defined (kind rate : ℕ) : Type 0 where
+  pub kind-lt : kind < 5
+  pub rate-lt : rate < 2
+  pub high-rate : rate ≡ 1 → kind ≡ 4

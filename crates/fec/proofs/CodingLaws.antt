@@ -8,14 +8,14 @@ use borrow.Author.Tests.{lt-ltb, le-ltb}
 use Rattle.bits.proofs.NumberLaws.{lt-cases}
 use Rattle.bits.proofs.BitLaws.{Binary}
 use Rattle.bits.proofs.RangeLaws.{agree₂, under}
-use Rattle.card.specs.Modes.{blockBytes}
+use Rattle.card.specs.Modes.{blockBytes, Defined}
 use Rattle.constituent.specs.Pairs.{pairCount}
 use Rattle.turbo.specs.Puncture.{row, keptCount}
 use Rattle.turbo.specs.Parity.{keptBit}
 use Rattle.turbo.proofs.ParityLaws.{kept-binary, kept-ext}
 use Rattle.turbo.proofs.PunctureLaws.{kept-count, kept-le}
 use Rattle.constituent.proofs.PairLaws.{few-pairs}
-use Rattle.interleaver.specs.Layouts.{Defined, groups}
+use Rattle.interleaver.specs.Layouts.{groups}
 use Rattle.interleaver.specs.Source.{codedBits, source}
 use Rattle.interleaver.proofs.InterleaverLaws.{source-lt}
 use Rattle.fec.specs.Coding.{dataBits, sourceBit, codedBit}

@@ -12,11 +12,10 @@ use Rattle.bits.specs.Sums.{count}
 use Rattle.bits.proofs.BitLaws.{Binary, bits-bytes, length-bytes}
 use Rattle.bits.proofs.ListLaws.{take-written}
 use Rattle.bits.proofs.SumLaws.{count-ext}
-use Rattle.card.specs.Modes.{blockBytes}
+use Rattle.card.specs.Modes.{blockBytes, Defined}
 use Rattle.turbo.specs.Puncture.{keptCount}
 use Rattle.turbo.specs.Parity.{keptBit}
 use Rattle.turbo.proofs.ParityLaws.{kept-ext}
-use Rattle.interleaver.specs.Layouts.{Defined}
 use Rattle.interleaver.specs.Source.{codedBits, codedAt}
 use Rattle.interleaver.proofs.InterleaverLaws.{coded-lt}
 use Rattle.fec.specs.Coding.{dataBits}

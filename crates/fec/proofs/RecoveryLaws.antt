@@ -15,11 +15,10 @@ use Rattle.refusal.specs.declared.Refusal.the-variants.{Majority, Parity}
 use Rattle.refusal.specs.Report.{done, refusal}
 use Rattle.refusal.specs.Outcome.{Row, inOrder, rowOrder, outcome}
 use Rattle.refusal.proofs.OutcomeLaws.{NoneApplies, outcome-good}
-use Rattle.card.specs.Modes.{blockBytes}
+use Rattle.card.specs.Modes.{blockBytes, Defined}
 use Rattle.turbo.specs.Puncture.{keptCount}
 use Rattle.turbo.specs.Parity.{keptBit}
 use Rattle.turbo.proofs.ParityLaws.{kept-ext}
-use Rattle.interleaver.specs.Layouts.{Defined}
 use Rattle.interleaver.specs.Source.{codedBits, codedAt}
 use Rattle.interleaver.proofs.InterleaverLaws.{coded-lt, source-coded}
 use Rattle.fec.specs.Coding.{dataBits, sourceBit, codedBit}

@@ -16,12 +16,12 @@ use Rattle.bits.specs.Ranges.{allBelow}
 use Rattle.bits.proofs.BitLaws.{Binary, bytes-ext, written-bits}
 use Rattle.bits.proofs.ListLaws.{length-written, getD-written, written-ext, written-part}
 use Rattle.bits.proofs.RangeLaws.{at-each, agree₂}
-use Rattle.card.specs.Modes.{blockBytes}
+use Rattle.card.specs.Modes.{blockBytes, Defined}
 use Rattle.columns.specs.Columns.{rowed, unrowed, tallest}
 use Rattle.turbo.specs.Puncture.{keptCount}
 use Rattle.turbo.specs.Parity.{keptBit}
 use Rattle.turbo.proofs.ParityLaws.{kept-binary}
-use Rattle.interleaver.specs.Layouts.{Defined, layoutOf}
+use Rattle.interleaver.specs.Layouts.{layoutOf}
 use Rattle.interleaver.specs.Source.{codedBits, source, codedAt}
 use Rattle.interleaver.specs.RowOrder.{sourceAt, rowPlace, rowSource}
 use Rattle.interleaver.proofs.InterleaverLaws.{coded-lt, row-place-lt, row-source-lt, row-source-place}

@@ -11,7 +11,8 @@ use Rattle.bits.specs.Lists.{tabulate, written}
 use Rattle.bits.proofs.BitLaws.{field-lt}
 use Rattle.bits.proofs.ListLaws.{getD-tabulate, getD-written, written-ext}
 use Rattle.interleaver.specs.Source.{codedBits}
-use Rattle.interleaver.proofs.InterleaverLaws.{defined-half, coded-half}
+use Rattle.card.proofs.ModeLaws.{defined-half}
+use Rattle.interleaver.proofs.InterleaverLaws.{coded-half}
 use Rattle.fec.specs.Coding.{codedBit}
 use Rattle.diversity.specs.Lanes.{laneOf}
 use Rattle.diversity.proofs.LaneLaws.{lane-below}

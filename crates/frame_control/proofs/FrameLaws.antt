@@ -18,7 +18,8 @@ use Rattle.card.specs.Card.{cardOf}
 use Rattle.card.specs.Entries.{defined}
 use Rattle.card.proofs.CardLaws.{defined-small}
 use Rattle.interleaver.specs.Source.{codedBits}
-use Rattle.interleaver.proofs.InterleaverLaws.{defined-half, coded-half}
+use Rattle.card.proofs.ModeLaws.{defined-half}
+use Rattle.interleaver.proofs.InterleaverLaws.{coded-half}
 use Rattle.fec.specs.Coding.{codedBit}
 use Rattle.fec.specs.Recovery.{firstUndecided, recoverRows, recovered, dataBit}
 use Rattle.fec.proofs.CodingLaws.{coded-binary}

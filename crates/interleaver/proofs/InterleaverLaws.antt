@@ -4,27 +4,19 @@ use mathlib.Core.Path.{_≡_, refl, sym, ap, _∙_}
 use mathlib.Core.List.{List}
 use Prim.Native.Nat.{ℕ, _+_, _*_, _/_, _<_, _≤_}
 use native.Mathlib.Nat.{le-of-suc-le-suc}
-use native.Mathlib.Omega.{arith}
 use lib.ListN.{length, getD}
 use Rattle.bits.specs.Lists.{tabulate}
 use Rattle.bits.specs.Permutations.{Permutes, Once}
 use Rattle.bits.proofs.ListLaws.{getD-tabulate, tabulate-of}
 use Rattle.bits.proofs.PermutationLaws.{once, inverse, inverse-after, after-inverse, inverse-lt}
 use Rattle.bits.proofs.RangeLaws.{agree, under₂}
-use Rattle.card.specs.Modes.{blockBytes}
-use Rattle.interleaver.specs.Layouts.{Defined, groups, layoutOf}
+use Rattle.card.specs.Modes.{blockBytes, Defined}
+use Rattle.interleaver.specs.Layouts.{groups, layoutOf}
 use Rattle.interleaver.specs.Source.{codedBits, source, codedAt}
 use Rattle.interleaver.specs.RowOrder.{rowPlace, rowSource}
 use Rattle.interleaver.proofs.LayoutLaws.{sound-of}
 use Rattle.interleaver.proofs.SourceLaws.{source-permutes}
 use Rattle.interleaver.proofs.RowLaws.{source-at-place, source-at-lt, place-permutes}
-
--- the defined kinds and rates
-pub defined-half : (kind : ℕ) → kind < 5 → Defined kind 0
-defined-half kind h = record { kind-lt = h; rate-lt = omega arith; high-rate = λ e. absurd (omega arith) }
-
-pub defined-high : Defined 4 1
-defined-high = record { kind-lt = omega arith; rate-lt = omega arith; high-rate = λ e. refl }
 
 -- at rate 1/2 a byte of the block makes 16 coded bits; at 16/18 the 520 bytes make 4,680
 pub coded-half : (kind : ℕ) → kind < 5 → codedBits kind 0 ≡ blockBytes kind * 16

@@ -9,10 +9,10 @@ use borrow.Author.Tests.{eqb-true, eqb-false}
 use Rattle.bits.specs.Ranges.{allBelow}
 use Rattle.bits.proofs.NumberLaws.{lt-cases}
 use Rattle.bits.proofs.RangeLaws.{at-each, agree₂, under, under₂}
-use Rattle.card.specs.Modes.{blockBytes}
+use Rattle.card.specs.Modes.{blockBytes, Defined}
 use Rattle.interleaver.specs.declared.Layout.{Layout}
 use Rattle.interleaver.specs.Source.{codedOf, codedBits}
-use Rattle.interleaver.specs.Layouts.{Defined, Sound, Small, Near, Paired, offsets, steps, groups, leads, layoutOf}
+use Rattle.interleaver.specs.Layouts.{Sound, Small, Near, Paired, offsets, steps, groups, leads, layoutOf}
 
 pub rows-in : (kind : ℕ) → kind < 5 → blockBytes kind * 2 < 65536
 rows-in = under 5 65536 (λ k. blockBytes k * 2) tt

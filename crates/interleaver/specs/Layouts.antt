@@ -9,12 +9,6 @@ use lib.ListN.{getD}
 use Rattle.card.specs.Modes.{blockBytes}
 use Rattle.interleaver.specs.declared.Layout.{Layout}
 
--- the kinds and rates of the table: kinds 0 to 4 at rate 0 (1/2), and kind 4 alone at rate 1 (16/18)
-pub record Defined (kind rate : ℕ) : Type 0 where
-  pub kind-lt : kind < 5
-  pub rate-lt : rate < 2
-  pub high-rate : rate ≡ 1 → kind ≡ 4
-
 -- Table 11, its column of offsets and its column of steps. Row kind + rate is that of kind and rate: five kinds at rate 1/2, then kind 4 at 16/18.
 abbrev pub offsets : List ℕ
 offsets = 16 ∷ 72 ∷ 136 ∷ 264 ∷ 520 ∷ 60 ∷ []

@@ -3,7 +3,7 @@ use libc::STDOUT_FILENO;
 ghost use mathlib.Core.Path.{_≡_};
 ghost use Prim.Native.Nat.{_+_, _*_, _<_, _≤_};
 ghost use lib.ListN.{length};
-ghost use Rattle.interleaver.specs.Layouts.{Defined};
+ghost use Rattle.card.specs.Modes.{Defined};
 ghost use Rattle.interleaver.specs.Source.{codedBits};
 
 // Room for the coded bits of any block.

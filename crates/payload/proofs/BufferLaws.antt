@@ -10,11 +10,10 @@ use Rattle.bits.specs.Lists.{written}
 use Rattle.bits.proofs.ListLaws.{length-written, getD-written, written-ext, written-over}
 use Rattle.refusal.specs.Report.{Report, done}
 use Rattle.refusal.specs.Outcome.{Outcome}
-use Rattle.card.specs.Modes.{blockBytes}
+use Rattle.card.specs.Modes.{blockBytes, Defined}
 use Rattle.scrambler.specs.Scrambler.{scrambled, scramble}
 use Rattle.bits.proofs.BitLaws.{length-bytes}
 use Rattle.scrambler.proofs.ScramblerLaws.{length-scramble, bits-scramble}
-use Rattle.interleaver.specs.Layouts.{Defined}
 use Rattle.interleaver.specs.Source.{codedBits}
 use Rattle.fec.specs.Coding.{dataBits, codedBit}
 use Rattle.fec.specs.Recovery.{dataBit, recovered}

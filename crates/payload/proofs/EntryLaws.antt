@@ -17,10 +17,9 @@ use Rattle.refusal.specs.Outcome.{Outcome, firstApplicable}
 use Rattle.refusal.proofs.OutcomeLaws.{done-same, outcome-done, outcome-good, refused-outcome, passed-outcome, none-outcome, refused-alike}
 use Rattle.card.specs.declared.Card.{Card}
 use Rattle.card.specs.Card.{cardOf}
-use Rattle.card.specs.Modes.{blockBytes}
+use Rattle.card.specs.Modes.{blockBytes, Defined}
 use Rattle.scrambler.specs.Scrambler.{scrambled, scramble}
 use Rattle.scrambler.proofs.ScramblerLaws.{scramble-bytes}
-use Rattle.interleaver.specs.Layouts.{Defined}
 use Rattle.interleaver.specs.Source.{codedBits, codedAt}
 use Rattle.interleaver.proofs.InterleaverLaws.{coded-lt}
 use Rattle.fec.specs.Recovery.{dataBit, firstUndecided, recoverRows, recovered}

@@ -16,11 +16,10 @@ use Rattle.refusal.specs.Outcome.{Row, row, Outcome, firstApplicable}
 use Rattle.refusal.proofs.OutcomeLaws.{outcomeBy, done-same, reported-done, refused-outcome, passed-outcome, report-of}
 use Rattle.card.specs.declared.Card.{Card}
 use Rattle.card.specs.Card.{cardOf}
-use Rattle.card.specs.Modes.{blockBytes}
+use Rattle.card.specs.Modes.{blockBytes, Defined}
 use Rattle.card.specs.Entries.{definedMode, defined, cardRows, readCard}
 use Rattle.card.proofs.FieldLaws.{card-read}
 use Rattle.card.proofs.CardLaws.{defined-small}
-use Rattle.interleaver.specs.Layouts.{Defined}
 use Rattle.interleaver.specs.Source.{codedBits}
 use Rattle.interleaver.proofs.InterleaverLaws.{coded-half, coded-high, coded-le}
 use Rattle.payload_layout.specs.Layouts.{layoutOf, layoutFor, items, mostItems, Laid}

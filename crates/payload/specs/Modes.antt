@@ -1,7 +1,7 @@
 -- The modes that the payload entries serve. Assumes nothing.
 use Prim.Native.Nat.{ℕ, _<_}
 use Rattle.diversity.specs.Bands.{bandCount}
-use Rattle.interleaver.specs.Layouts.{Defined}
+use Rattle.card.specs.Modes.{Defined}
 
 -- a band, a kind that is not frame control with a rate of its own, and a modulation
 pub record Served (band kind rate modulation : ℕ) : Type 0 where

@@ -1,7 +1,8 @@
 -- `frame_control::send_by` meets its contract: each return is a row of its table. Assumes nothing.
 use native.Mathlib.Omega.{arith}
 use borrow.Author.Tests.{lt-ltb, le-ltb, eq-eqb, ne-eqb}
-use Rattle.interleaver.proofs.InterleaverLaws.{defined-half, coded-half}
+use Rattle.card.proofs.ModeLaws.{defined-half}
+use Rattle.interleaver.proofs.InterleaverLaws.{coded-half}
 use Rattle.frame_control.specs.Entries.{sendBy}
 use Rattle.frame_control.proofs.EntryLaws.{items-sent}
 use borrow.Author.Needs.{needs}

@@ -1,6 +1,6 @@
 -- `interleaver_vectors::main` meets its contract. The invariant: kind is at most 5. Assumes nothing.
 use Prim.Native.Nat.{_-_, _≤_}
-use Rattle.interleaver.proofs.InterleaverLaws.{defined-half, defined-high}
+use Rattle.card.proofs.ModeLaws.{defined-half, defined-high}
 use borrow.Author.Needs.{needs}
 use Rattle.interleaver_vectors.proofs.main.Statement.{statement}
 use Rattle.interleaver_vectors.proofs.main.Tie as tie
