@@ -1,17 +1,22 @@
-//! The programs `encode` and `decode` over the reference, to be compared with those over the core.
+//! The programs `encode`, `decode` and `print_card` over the reference, to be compared with those
+//! over the core.
 //!
 //! `job encode CARD BLOCK` writes the items, a byte an item; `job decode CARD ITEMS` writes the
 //! bytes as a line of hex. The card's kind says whether it is a frame control or a payload block. A
 //! refusal is written as its number and what comes with it, a line each. A file that cannot be read
-//! counts as empty.
+//! counts as empty. `job print_card` prints the card on standard input, or its refusal (01; D11).
 
 use std::fs;
-use std::io::{self, Write};
+use std::io::{self, Read, Write};
 use std::process::ExitCode;
 
 use reference::card;
 use reference::interface::Entry;
 use reference::{number, Report};
+
+const USAGE: &str = "usage: job encode CARD BLOCK
+       job decode CARD ITEMS
+       job print_card < CARD";
 
 /// More than any entry writes.
 const ROOM: usize = 10_000;
@@ -20,43 +25,95 @@ fn is_frame_control(card: &[u8]) -> bool {
     card::read(card).map_or(true, |card| card.kind == 0)
 }
 
-/// The report of an entry, and what it wrote.
-fn call(entry: Entry, card: &[u8], input: &[u8]) -> (Report, Vec<u8>) {
+/// What an entry wrote, or its refusal.
+fn call(entry: Entry, card: &[u8], input: &[u8]) -> Result<Vec<u8>, Report> {
     let mut out = vec![0; ROOM];
     let report = entry.call(card, input, &mut out);
-    if report.number == number::DONE {
-        out.truncate(report.value as usize);
+    if report.number != number::DONE {
+        return Err(report);
     }
-    (report, out)
+    out.truncate(report.value as usize);
+    Ok(out)
 }
 
-fn hex_line(bytes: &[u8]) -> Vec<u8> {
+fn refused(report: Report) -> Vec<u8> {
+    format!("refused {}\nvalue {}\n", report.number, report.value).into_bytes()
+}
+
+fn hex_line(bytes: Vec<u8>) -> Vec<u8> {
     let digits: String = bytes.iter().map(|byte| format!("{byte:02x}")).collect();
     format!("{digits}\n").into_bytes()
 }
 
+fn encode(card: &[u8], block: &[u8]) -> Vec<u8> {
+    let entry = if is_frame_control(card) {
+        Entry::FcSend
+    } else {
+        Entry::PayloadSend
+    };
+    call(entry, card, block).unwrap_or_else(refused)
+}
+
+fn decode(card: &[u8], items: &[u8]) -> Vec<u8> {
+    let entry = if is_frame_control(card) {
+        Entry::FcRead
+    } else {
+        Entry::PayloadRead
+    };
+    call(entry, card, items).map_or_else(refused, hex_line)
+}
+
+fn file(name: &str) -> Vec<u8> {
+    fs::read(name).unwrap_or_default()
+}
+
+fn standard_input() -> io::Result<Vec<u8>> {
+    let mut bytes = Vec::new();
+    io::stdin().read_to_end(&mut bytes)?;
+    Ok(bytes)
+}
+
 fn main() -> ExitCode {
     let arguments: Vec<String> = std::env::args().skip(1).collect();
-    let [program, card, input] = &arguments[..] else {
-        eprintln!("usage: job encode|decode CARD FILE");
-        return ExitCode::from(2);
+    let arguments: Vec<&str> = arguments.iter().map(String::as_str).collect();
+    let written = match arguments[..] {
+        ["--help" | "-h", ..] => Ok(format!("{USAGE}\n").into_bytes()),
+        ["encode", card, block] => Ok(encode(&file(card), &file(block))),
+        ["decode", card, items] => Ok(decode(&file(card), &file(items))),
+        ["print_card"] => standard_input().map(|card| card::text(&card).into_bytes()),
+        _ => {
+            eprintln!("{USAGE}");
+            return ExitCode::from(2);
+        }
     };
-    let card = fs::read(card).unwrap_or_default();
-    let input = fs::read(input).unwrap_or_default();
-    let entry = match (program.as_str(), is_frame_control(&card)) {
-        ("encode", true) => Entry::FcSend,
-        ("encode", false) => Entry::PayloadSend,
-        (_, true) => Entry::FcRead,
-        (_, false) => Entry::PayloadRead,
-    };
-    let (report, out) = call(entry, &card, &input);
-    let written = match (report.number, program.as_str()) {
-        (number::DONE, "encode") => out,
-        (number::DONE, _) => hex_line(&out),
-        (number, _) => format!("refused {number}\nvalue {}\n", report.value).into_bytes(),
-    };
-    match io::stdout().write_all(&written) {
+    match written.and_then(|bytes| io::stdout().write_all(&bytes)) {
         Ok(()) => ExitCode::SUCCESS,
-        Err(_) => ExitCode::FAILURE,
+        Err(error) => {
+            eprintln!("job: {error}");
+            ExitCode::FAILURE
+        }
+    }
+}
+
+#[cfg(test)]
+mod tests {
+    use super::*;
+    use reference::cases::modes;
+
+    #[test]
+    fn what_is_encoded_is_decoded() {
+        for mode in modes() {
+            let (card, block) = (mode.card(1095, 5), vec![0xA5; mode.bytes()]);
+            let items = encode(&card, &block);
+            assert_eq!(items.len(), mode.items());
+            assert_eq!(decode(&card, &items), hex_line(block));
+        }
+    }
+
+    #[test]
+    fn refusals_are_two_lines() {
+        let card = modes()[0].card(0, 0);
+        assert_eq!(encode(&card, &[0; 15]), b"refused 4\nvalue 15\n");
+        assert_eq!(decode(&card[..10], &[]), b"refused 1\nvalue 10\n");
     }
 }
