@@ -42,8 +42,11 @@ unfoldable pub readCard : List ℕ → Report Card
 readCard bytes = reported (cardRows bytes) (cardOf bytes)
 
 -- reading a card into a list of its fields
+abbrev pub fieldRows : List ℕ → List ℕ → List Row
+fieldRows bytes fields = cardRows bytes ++ (row (ltb (length fields) 8) (Room 8) ∷ [])
+
 unfoldable pub readFields : List ℕ → List ℕ → Outcome ℕ (List ℕ)
-readFields bytes fields = outcome (cardRows bytes ++ (row (ltb (length fields) 8) (Room 8) ∷ [])) fields 8 (fieldsOf (cardOf bytes) ++ drop 8 fields)
+readFields bytes fields = outcome (fieldRows bytes fields) fields 8 (fieldsOf (cardOf bytes) ++ drop 8 fields)
 
 -- the rows of writing: any field too large for its bits is refused, version and spare by 2 and the others by 3
 abbrev pub writeRows : Card → List ℕ → List Row

@@ -6,7 +6,7 @@ use lib.Dec.{ltb}
 use lib.ListN.{length, take, drop}
 use Rattle.refusal.specs.declared.Refusal.the-variants.{Room}
 use Rattle.refusal.specs.Report.{Report, done, refused}
-use Rattle.refusal.specs.Outcome.{row, Outcome, outcome}
+use Rattle.refusal.specs.Outcome.{Row, row, Outcome, outcome}
 use Rattle.text.specs.Text.{ascii, decimal, binary, line}
 use Rattle.card.specs.declared.Card.{Card}
 use Rattle.card.specs.declared.Draft.{Draft}
@@ -34,10 +34,11 @@ unfoldable pub cardText : List ℕ → List ℕ
 cardText bytes = textOf (readCard bytes)
 
 -- the text into a buffer: the only refusal is for want of room
+abbrev pub textRows : List ℕ → List ℕ → List Row
+textRows bytes out = row (ltb (length out) (length (cardText bytes))) (Room (length (cardText bytes))) ∷ []
+
 unfoldable pub textCard : List ℕ → List ℕ → Outcome ℕ (List ℕ)
-textCard bytes out =
-    outcome (row (ltb (length out) (length (cardText bytes))) (Room (length (cardText bytes))) ∷ [])
-    out (length (cardText bytes)) (cardText bytes ++ drop (length (cardText bytes)) out)
+textCard bytes out = outcome (textRows bytes out) out (length (cardText bytes)) (cardText bytes ++ drop (length (cardText bytes)) out)
 
 -- the text that a draft holds so far
 unfoldable pub drafted : Draft → List ℕ

@@ -6,7 +6,7 @@ use lib.Dec.{eqb, ltb}
 use lib.Ieee.{Float}
 use lib.ListN.{length, getD, drop}
 use Rattle.refusal.specs.declared.Refusal.the-variants.{Mode, Length, Room}
-use Rattle.refusal.specs.Outcome.{Outcome, row, outcome}
+use Rattle.refusal.specs.Outcome.{Row, row, Outcome, outcome}
 use Rattle.card.specs.Modes.{carrierBits}
 use Rattle.constellation.specs.declared.Point.{Point}
 use Rattle.constellation.specs.declared.Received.{Received}
@@ -18,22 +18,26 @@ use Rattle.constellation.specs.Slicing.{itemsOf}
 abbrev pub withPoint : Point → List Float → List Float
 withPoint p out = p .i ∷ p .q ∷ drop 2 out
 
-unfoldable pub mapOutcome : ℕ → List ℕ → List Float → Outcome ℕ (List Float)
-mapOutcome modulation bits out =
-    outcome
-    (row (ltb 2 modulation) Mode
+-- mapping the bits of a carrier
+abbrev pub mapRows : ℕ → List ℕ → List Float → List Row
+mapRows modulation bits out =
+    row (ltb 2 modulation) Mode
     ∷ row (not (eqb (length bits) (carrierBits modulation))) (Length (length bits))
     ∷ row (ltb (length out) 2) (Room 2)
     ∷ illegalBit bits
-    ∷ [])
-    out 2 (withPoint (pointOf modulation (λ k. getD bits k 0)) out)
+    ∷ []
+
+unfoldable pub mapOutcome : ℕ → List ℕ → List Float → Outcome ℕ (List Float)
+mapOutcome modulation bits out = outcome (mapRows modulation bits out) out 2 (withPoint (pointOf modulation (λ k. getD bits k 0)) out)
 
 -- a carrier by a number that is 0 where it is lost
 abbrev pub receivedOf : ℕ → Float → Float → Received
 receivedOf heard i q = cond (eqb heard 0) Lost (Heard i q)
 
+-- slicing a received carrier
+abbrev pub sliceRows : ℕ → List ℕ → List Row
+sliceRows modulation out = row (ltb 2 modulation) Mode ∷ row (ltb (length out) (carrierBits modulation)) (Room (carrierBits modulation)) ∷ []
+
 unfoldable pub sliceOutcome : ℕ → Received → List ℕ → Outcome ℕ (List ℕ)
 sliceOutcome modulation received out =
-    outcome
-    (row (ltb 2 modulation) Mode ∷ row (ltb (length out) (carrierBits modulation)) (Room (carrierBits modulation)) ∷ [])
-    out (carrierBits modulation) (itemsOf modulation received ++ drop (carrierBits modulation) out)
+    outcome (sliceRows modulation out) out (carrierBits modulation) (itemsOf modulation received ++ drop (carrierBits modulation) out)

@@ -6,37 +6,79 @@ use native.Mathlib.Nat.{mul-assoc, mul-comm}
 use native.Mathlib.Omega.{arith}
 use lib.ListN.{length, getD}
 use Rattle.bits.specs.Lists.{tabulate}
-use Rattle.bits.proofs.RangeLaws.{under}
+use Rattle.bits.proofs.ListLaws.{getD-tabulate}
+use Rattle.bits.proofs.RangeLaws.{under, agree}
 use Rattle.refusal.proofs.OutcomeLaws.{kept}
 use Rattle.constellation.specs.Carriers.{throughPoints}
 use Rattle.constellation.proofs.RoundTrip.{list-back}
 use Rattle.diversity.specs.Bands.{carriers, carrierCount, itemCount}
-use Rattle.frame_control.specs.Entries.{bandOf, frameRows, wordRows, readRows, tapsOf, send, read}
+use Rattle.frame_control.specs.Entries.{bandOf, frameRows, wordRows, readRows, tapsOf, sentItem, send, read}
 use Rattle.frame_control.specs.Words.{made}
-use Rattle.frame_control.proofs.FrameLaws.{clean, comes-back, refused-at-limit, made-length, made-binary}
+use Rattle.frame_control.proofs.FrameLaws.{send-good, made-is, clean, comes-back, refused-at-limit, made-length, made-binary}
 use Rattle.card.specs.Card.{cardOf}
 use Rattle.card.specs.Modes.{blockBytes, carrierBits}
+use Rattle.card.specs.Entries.{fieldRows, readFields, writeRows, writeCard}
+use Rattle.card.specs.Text.{textRows, textCard}
+use Rattle.card.proofs.RoundTrip.{write-after-read, read-after-write}
+use Rattle.constellation.specs.Entries.{mapRows, mapOutcome, sliceRows, sliceOutcome}
+use Rattle.diversity.specs.Bands.{bandCount, fewestCopies, mostCopies}
+use Rattle.diversity.proofs.BandLaws.{copies-range}
+use Rattle.payload_layout.specs.Items.{sentOn}
+use Rattle.payload_layout.proofs.ItemLaws.{sent-carries}
 use Rattle.payload_layout.specs.Layouts.{symbolBits, layoutFor, layoutOf, items}
 use Rattle.payload.specs.Entries.{payloadRows, layoutOfCard, sendRows, send as payloadSend, readRows as payloadReadRows, read as payloadRead}
 use Rattle.payload.specs.Words.{made as payloadMade}
 use Rattle.payload.proofs.ModeLaws.{mode-served, layout-items}
-use Rattle.payload.proofs.ReturnLaws.{clean as payload-clean, survives as payload-back, made-length as payload-length, made-binary as payload-binary}
-use Rattle.demands.specs.Demands.{Keeps, ComesHome, PayloadComesHome, PayloadSurvives, Survives, BestPossible, Lengths}
+use Rattle.payload.proofs.ReturnLaws.{blockBits, send-good as payload-sent, made-is as payload-made-is, clean as payload-clean, survives as payload-back, made-length as payload-length, made-binary as payload-binary}
+use Rattle.demands.specs.Demands.{Keeps, Outgoing, PayloadOutgoing, CardWritten, CardReadAgain, CleanReturn, PayloadCleanReturn, PayloadSurvives, Lanes, Survives, BestPossible, Lengths}
 
-pub send-keeps : Keeps send
-unfolding send
-send-keeps card word out = kept {A = ℕ} (frameRows card ++ wordRows (bandOf card) word out) out _ _
+-- ---- Demand 1
 
-pub read-keeps : Keeps read
-unfolding read
-read-keeps card items out = kept {A = ℕ} (frameRows card ++ readRows (bandOf card) (tapsOf card) items out) out _ _
+pub keeps : Keeps
+unfolding readFields writeCard textCard mapOutcome sliceOutcome send read payloadSend payloadRead
+keeps =
+    record {
+      card-read = λ bytes fields. kept {A = ℕ} (fieldRows bytes fields) fields _ _;
+      card-write = λ c out. kept {A = ℕ} (writeRows c out) out _ _;
+      card-text = λ bytes out. kept {A = ℕ} (textRows bytes out) out _ _;
+      map = λ modulation bits point. kept {A = ℕ} (mapRows modulation bits point) point _ _;
+      slice = λ modulation received out. kept {A = ℕ} (sliceRows modulation out) out _ _;
+      frame-send = λ card word out. kept {A = ℕ} (frameRows card ++ wordRows (bandOf card) word out) out _ _;
+      frame-read = λ card items out. kept {A = ℕ} (frameRows card ++ readRows (bandOf card) (tapsOf card) items out) out _ _;
+      payload-send = λ card block out. kept {A = ℕ} (payloadRows card ++ sendRows (layoutOfCard card) (cardOf card .kind) block out) out _ _;
+      payload-read = λ card items out. kept {A = ℕ} (payloadRows card ++ payloadReadRows (layoutOfCard card) (cardOf card .kind) (cardOf card .rate) (cardOf card .taps) items out) out _ _;
+    }
+
+-- ---- Demand 2
+
+pub outgoing : Outgoing
+unfolding sentItem
+outgoing card word good is out room = (
+  ap (λ o. o .report) (send-good card word good is out room),
+  λ n h. ap (λ (l : List ℕ). getD l n 0) (made-is card word good is out room) ∙ getD-tabulate (itemCount (bandOf card)) (sentItem (bandOf card) (tapsOf card) word) n 0 h,
+)
+
+pub payload-outgoing : PayloadOutgoing
+payload-outgoing card block good is out room = (
+  ap (λ o. o .report) (payload-sent card good block is out room),
+  λ n b h t.
+      ap (λ (l : List ℕ). getD l n 0) (payload-made-is card good block is out room)
+      ∙ getD-tabulate (items (layoutOfCard card)) (sentOn (layoutOfCard card) (blockBits card block)) n 0 h
+      ∙ sent-carries (layoutOfCard card) (blockBits card block) n b t,
+)
+
+pub card-written : CardWritten
+card-written = write-after-read
+
+pub card-read-again : CardReadAgain
+card-read-again = read-after-write
 
 two-a-carrier : (band : ℕ) → itemCount band ≡ 2 * carrierCount band
 unfolding itemCount
 two-a-carrier band = refl
 
-pub comes-home : ComesHome
-comes-home card word good is out back room space = (clean card word good is out back room space, through)
+pub clean-return : CleanReturn
+clean-return card word good is out back room space = (clean card word good is out back room space, through)
   where
     through : tabulate (itemCount (bandOf card)) (throughPoints 1 (λ n. getD (made card word out) n 0)) ≡ made card word out
     through =
@@ -45,28 +87,28 @@ comes-home card word good is out back room space = (clean card word good is out 
         ap (λ (n : ℕ). tabulate n (throughPoints 1 (λ n. getD (made card word out) n 0))) (sym long)
         ∙ list-back 1 (made card word out) (carrierCount (bandOf card)) (omega arith) two (λ k h. made-binary card word good is out room k (omega arith))
 
+-- ---- Demand 3
+
+pub lanes : Lanes
+lanes band h b l =
+    let (least, most) = copies-range band h b l in
+    let fewest = agree bandCount (λ band. 12) fewestCopies tt band h in
+    let greatest = agree bandCount mostCopies (λ band. 13) tt band h in
+    (omega (arith, least, fewest), omega (arith, most, greatest))
+
 pub survives : Survives
 survives card word good is out items back room space damage h = comes-back card word good is out items back room damage space h
 
 pub best-possible : BestPossible
 best-possible card word good is out back room space = refused-at-limit card word good is out back room space
 
-pub payload-send-keeps : Keeps payloadSend
-unfolding payloadSend
-payload-send-keeps card block out = kept {A = ℕ} (payloadRows card ++ sendRows (layoutOfCard card) (cardOf card .kind) block out) out _ _
-
-pub payload-read-keeps : Keeps payloadRead
-unfolding payloadRead
-payload-read-keeps card received out =
-    kept {A = ℕ} (payloadRows card ++ payloadReadRows (layoutOfCard card) (cardOf card .kind) (cardOf card .rate) (cardOf card .taps) received out) out _ _
-
 -- a carrier's items are as many as the modulation has bits
 whole-carriers : (card : List ℕ) → items (layoutOfCard card) ≡ carrierBits (cardOf card .modulation) * (layoutOfCard card .symbols * layoutOfCard card .carriers)
 unfolding items symbolBits layoutOf layoutFor
 whole-carriers card = let L = layoutOfCard card in sym (mul-assoc (L .symbols) (L .carriers) (L .bits)) ∙ mul-comm (L .symbols * L .carriers) (L .bits)
 
-pub payload-comes-home : PayloadComesHome
-payload-comes-home card block good is out back room space = (payload-clean card good block is out back room space, through)
+pub payload-clean-return : PayloadCleanReturn
+payload-clean-return card block good is out back room space = (payload-clean card good block is out back room space, through)
   where
     through : tabulate (items (layoutOfCard card)) (throughPoints (cardOf card .modulation) (λ n. getD (payloadMade card block out) n 0)) ≡ payloadMade card block out
     through =

@@ -4,11 +4,14 @@ use mathlib.Core.Path.{_≡_, refl}
 use Prim.{Unit}
 use Prim.Native.Nat.{ℕ, _+_, _-_, _*_}
 use Rattle.bits.specs.Bits.{bitOf, pack, byteOf, field}
+use Rattle.bits.specs.Lists.{tabulate, lowest}
 use Rattle.bits.specs.Sums.{sum, count}
 use Rattle.refusal.specs.Report.{Report, done, refused}
 use Rattle.card.specs.declared.Card.{Card}
 use Rattle.card.specs.Card.{fieldsOf, cardOf}
 use Rattle.card.specs.Entries.{definedMode, readCard}
+use Rattle.card.specs.Text.{modeLines, cardLines, cardText}
+use Rattle.text.specs.Text.{ascii, places, decimal, binary}
 use Rattle.scrambler.specs.Scrambler.{feedback, shifted, afterShifts, scramblerBit, allOnes}
 use Rattle.constituent.specs.Encoder.{plus, startOf}
 use Rattle.pair_interleaver.specs.Interleave.{placeBy, place}
@@ -35,6 +38,10 @@ turnOf n = column n 0 ∷ column n 1 ∷ column n 2 ∷ column n 3 ∷ []
 abbrev copiesOf : ℕ → ℕ → ℕ
 copiesOf band b = copies (itemCount band) (rides (laneOf band)) b
 
+-- the example card
+abbrev exampleCard : List ℕ
+exampleCard = 0x12 ∷ 0x58 ∷ 0x8E ∷ 0x00 ∷ 0x20 ∷ 0x00 ∷ 0x00 ∷ 0x00 ∷ 0x00 ∷ 0x00 ∷ 0x01 ∷ []
+
 -- what the rule gives, and what the paper prints
 abbrev pub checks : List (List ℕ × List ℕ)
 checks =
@@ -56,10 +63,11 @@ checks =
     -- P9 and P10: copies on bands 0 and 1
     ∷ (copiesOf 0 0 ∷ copiesOf 0 27 ∷ [], 13 ∷ 12 ∷ [])
     ∷ (copiesOf 1 0 ∷ copiesOf 1 3 ∷ [], 13 ∷ 12 ∷ [])
-    -- P11: the example card
+    -- P11: the example card, read and printed
+    ∷ (numbers (readCard exampleCard), 0 ∷ 1 ∷ 0 ∷ 4 ∷ 1 ∷ 1 ∷ 0b10001000111 ∷ 0 ∷ 9_007_199_254_740_993 ∷ [])
     ∷ (
-      numbers (readCard (0x12 ∷ 0x58 ∷ 0x8E ∷ 0x00 ∷ 0x20 ∷ 0x00 ∷ 0x00 ∷ 0x00 ∷ 0x00 ∷ 0x00 ∷ 0x01 ∷ [])),
-      0 ∷ 1 ∷ 0 ∷ 4 ∷ 1 ∷ 1 ∷ 0b10001000111 ∷ 0 ∷ 9_007_199_254_740_993 ∷ [],
+      cardText exampleCard,
+      ascii "version 1\nband 0\nkind 4\nrate 1\nmodulation 1\ntaps 10001000111\nserial 9007199254740993\n",
     )
     -- P12: band 0, QPSK, 4,680 coded bits: symbols and pad
     ∷ (layoutOf 0 1 4680 .symbols ∷ layoutOf 0 1 4680 .pad ∷ [], 6 ∷ 252 ∷ [])
@@ -71,5 +79,5 @@ Agree [] = Unit {0}
 Agree (row ∷ rows) = (row .0 ≡ row .1) × Agree rows
 
 pub checks-agree : Agree checks
-unfolding readCard cardOf definedMode field pack byteOf bitOf feedback shifted afterShifts scramblerBit startOf place offsets carriers carrierCount itemCount laneBit rides copies sum count placeBy plus layoutOf layoutFor padBits symbolCount symbolBits
-checks-agree = (refl, (refl, (refl, (refl, (refl, (refl, (refl, (refl, (refl, (refl, (refl, (refl, (refl, tt)))))))))))))
+unfolding cardText cardLines modeLines decimal binary places lowest tabulate readCard cardOf definedMode field pack byteOf bitOf feedback shifted afterShifts scramblerBit startOf place offsets carriers carrierCount itemCount laneBit rides copies sum count placeBy plus layoutOf layoutFor padBits symbolCount symbolBits
+checks-agree = (refl, (refl, (refl, (refl, (refl, (refl, (refl, (refl, (refl, (refl, (refl, (refl, (refl, (refl, tt))))))))))))))

@@ -1,47 +1,122 @@
 -- The three demands, over the same outcome definitions that the entries' contracts cite. proofs/Proved.antt proves each. Assumes nothing.
 use mathlib.Core.List.{List, _++_}
 use mathlib.Core.Path.{_≡_}
-use Prim.Native.Nat.{ℕ, _+_, _*_, _≤_, _<_}
-use lib.ListN.{length, getD, drop}
+use Prim.Native.Nat.{ℕ, _+_, _*_, _^_, _≤_, _<_}
+use lib.Dec.{T}
+use lib.Ieee.{Float}
+use lib.ListN.{length, getD, take, drop}
+use Rattle.bits.specs.Bits.{bitOf}
 use Rattle.bits.specs.Lists.{tabulate}
 use Rattle.refusal.specs.Report.{done, number}
 use Rattle.refusal.specs.Outcome.{Outcome}
-use Rattle.constellation.specs.Carriers.{throughPoints}
-use Rattle.diversity.specs.Bands.{carrierCount, itemCount, fewestCopies}
-use Rattle.diversity.specs.Damage.{Damage, altered, lost}
+use Rattle.card.specs.declared.Card.{Card}
 use Rattle.card.specs.Card.{cardOf}
 use Rattle.card.specs.Modes.{blockBytes}
+use Rattle.card.specs.Entries.{readCard, readFields, writeCard}
+use Rattle.card.specs.Text.{textCard}
+use Rattle.constellation.specs.declared.Received.{Received}
+use Rattle.constellation.specs.Carriers.{throughPoints}
+use Rattle.constellation.specs.Entries.{mapOutcome, sliceOutcome}
+use Rattle.scrambler.specs.Scrambler.{scrambled}
 use Rattle.interleaver.specs.Source.{codedBits}
+use Rattle.fec.specs.Coding.{codedBit}
+use Rattle.diversity.specs.Bands.{bandCount, carrierCount, itemCount, fewestCopies}
+use Rattle.diversity.specs.Lanes.{rides, laneOf}
+use Rattle.diversity.specs.Damage.{Damage, altered, lost}
 use Rattle.diversity.specs.Votes.{copies, wrongCopies, lostCopies}
 use Rattle.payload_layout.specs.Layouts.{items as itemsOf}
 use Rattle.payload_layout.specs.Items.{carries}
-use Rattle.payload.specs.Entries.{layoutOfCard, read as payloadRead}
+use Rattle.payload.specs.Entries.{layoutOfCard, send as payloadSend, read as payloadRead}
 use Rattle.payload.specs.Words.{GoodCard as GoodPayloadCard, Block, made as payloadMade}
-use Rattle.frame_control.specs.Entries.{bandOf, read}
+use Rattle.frame_control.specs.Entries.{bandOf, tapsOf, send, read}
 use Rattle.frame_control.specs.Words.{GoodCard, Word, made}
 
--- an entry: a card, an input and a lent buffer to what is reported and what the buffer then holds
-abbrev Entry : Type 0
-Entry = List ℕ → List ℕ → List ℕ → Outcome ℕ (List ℕ)
+-- ---- Demand 1: hand it anything
 
--- Demand 1: hand it anything; a refusal keeps every lent byte.
-abbrev pub Keeps : Entry → Type 0
-Keeps entry = (card input out : List ℕ) → (number (entry card input out .report) ≡ 0 → ⊥) → entry card input out .out ≡ out
+-- a refused call leaves what it was lent as it was
+abbrev pub Kept : {A : Type 0} → A → Outcome ℕ A → Type 0
+Kept lent o = (number (o .report) ≡ 0 → ⊥) → o .out ≡ lent
 
--- Demand 2: from clean carriers every word comes home whole, also through the constellation's points (frame control is QPSK).
-abbrev pub ComesHome : Type 0
-ComesHome =
+-- so does every entry that is lent memory, whatever it is handed
+pub record Keeps : Type 0 where
+  pub card-read : (bytes fields : List ℕ) → Kept fields (readFields bytes fields)
+  pub card-write : (c : Card) (out : List ℕ) → Kept out (writeCard c out)
+  pub card-text : (bytes out : List ℕ) → Kept out (textCard bytes out)
+  pub map : (modulation : ℕ) (bits : List ℕ) (point : List Float) → Kept point (mapOutcome modulation bits point)
+  pub slice : (modulation : ℕ) (received : Received) (out : List ℕ) → Kept out (sliceOutcome modulation received out)
+  pub frame-send : (card word out : List ℕ) → Kept out (send card word out)
+  pub frame-read : (card items out : List ℕ) → Kept out (read card items out)
+  pub payload-send : (card block out : List ℕ) → Kept out (payloadSend card block out)
+  pub payload-read : (card items out : List ℕ) → Kept out (payloadRead card items out)
+
+-- ---- Demand 2: each bit going out, all of them coming back
+
+-- A word under a good card goes out, and each item is the coded bit that its lane carries.
+abbrev pub Outgoing : Type 0
+Outgoing =
+    (card word : List ℕ) → GoodCard card → Word word → (out : List ℕ) → itemCount (bandOf card) ≤ length out
+    → (send card word out .report ≡ done (itemCount (bandOf card)))
+    × ((n : ℕ) → n < itemCount (bandOf card) → getD (made card word out) n 0 ≡ codedBit 0 0 (tapsOf card) (bitOf word) (laneOf (bandOf card) n))
+
+-- So does a payload block, scrambled before it is coded, and each item is the coded bit that it carries by the layout.
+abbrev pub PayloadOutgoing : Type 0
+PayloadOutgoing =
+    (card block : List ℕ) → GoodPayloadCard card → Block (cardOf card .kind) block → (out : List ℕ) → itemsOf (layoutOfCard card) ≤ length out
+    → (payloadSend card block out .report ≡ done (itemsOf (layoutOfCard card)))
+    × ((n b : ℕ) → n < itemsOf (layoutOfCard card) → T (carries (layoutOfCard card) n b)
+    → getD (payloadMade card block out) n 0 ≡ codedBit (cardOf card .kind) (cardOf card .rate) (cardOf card .taps) (scrambled (bitOf block)) b)
+
+-- From clean carriers every word comes back whole, also through the constellation's points (frame control is QPSK).
+abbrev pub CleanReturn : Type 0
+CleanReturn =
     (card word : List ℕ) → GoodCard card → Word word → (out back : List ℕ) → itemCount (bandOf card) ≤ length out → 16 ≤ length back
     → (read card (made card word out) back ≡ record { report = done 16; out = word ++ drop 16 back })
     × (tabulate (itemCount (bandOf card)) (throughPoints 1 (λ n. getD (made card word out) n 0)) ≡ made card word out)
 
--- The same of every rightly sized payload block, through the points of the card's modulation.
-abbrev pub PayloadComesHome : Type 0
-PayloadComesHome =
+-- So does every rightly sized payload block, through the points of the card's modulation.
+abbrev pub PayloadCleanReturn : Type 0
+PayloadCleanReturn =
     (card block : List ℕ) → GoodPayloadCard card → Block (cardOf card .kind) block → (out back : List ℕ) → itemsOf (layoutOfCard card) ≤ length out
     → blockBytes (cardOf card .kind) ≤ length back
     → (payloadRead card (payloadMade card block out) back ≡ record { report = done (blockBytes (cardOf card .kind)); out = block ++ drop (blockBytes (cardOf card .kind)) back })
     × (tabulate (itemsOf (layoutOfCard card)) (throughPoints (cardOf card .modulation) (λ n. getD (payloadMade card block out) n 0)) ≡ payloadMade card block out)
+
+-- A card that is read is written as the same bytes, and fields that are written are read again, with all 64 bits of the serial.
+abbrev pub CardWritten : Type 0
+CardWritten =
+    (bytes : List ℕ) → ((i : ℕ) → getD bytes i 0 < 256) → (c : Card) → readCard bytes ≡ done c → (out : List ℕ) → 11 ≤ length out
+    → (writeCard c out .report ≡ done 11) × (writeCard c out .out ≡ bytes ++ drop 11 out)
+
+abbrev pub CardReadAgain : Type 0
+CardReadAgain = (c : Card) → c .serial < 2 ^ 64 → (out : List ℕ) → writeCard c out .report ≡ done 11 → readCard (take 11 (writeCard c out .out)) ≡ done c
+
+-- ---- Demand 3: how much damage a frame control survives
+
+-- On bands 0 and 1 each of the 256 coded bits has at least 12 and at most 13 lanes, its copies.
+abbrev pub Lanes : Type 0
+Lanes =
+    (band : ℕ) → band < bandCount → (b : ℕ) → b < 256
+    → (12 ≤ copies (itemCount band) (rides (laneOf band)) b) × (copies (itemCount band) (rides (laneOf band)) b ≤ 13)
+
+-- twice the altered plus the lost carriers of a reception, held against what was made
+abbrev pub damageWeight : List ℕ → List ℕ → List ℕ → ℕ
+damageWeight card sent items = 2 * altered (carrierCount (bandOf card)) sent items + lost (carrierCount (bandOf card)) sent items
+
+-- Below 12, the fewest lanes of a bit, the word comes back exact.
+abbrev pub Survives : Type 0
+Survives =
+    (card word : List ℕ) → GoodCard card → Word word → (out items back : List ℕ) → itemCount (bandOf card) ≤ length out → 16 ≤ length back
+    → Damage (itemCount (bandOf card)) items → damageWeight card (made card word out) items < fewestCopies (bandOf card)
+    → read card items back ≡ record { report = done 16; out = word ++ drop 16 back }
+
+-- For every good card and word some damage of exactly that number is refused with 7.
+abbrev pub BestPossible : Type 0
+BestPossible =
+    (card word : List ℕ) → GoodCard card → Word word → (out back : List ℕ) → itemCount (bandOf card) ≤ length out → 16 ≤ length back
+    → (items : List ℕ) × Damage (itemCount (bandOf card)) items
+    × (damageWeight card (made card word out) items ≡ fewestCopies (bandOf card)) × (number (read card items back .report) ≡ 7)
+
+-- ---- Beyond the demands
 
 -- A payload block comes back exact whenever for each coded bit twice its wrong copies plus its lost copies is below its copies.
 abbrev pub PayloadSurvives : Type 0
@@ -53,24 +128,6 @@ PayloadSurvives =
     + lostCopies (itemsOf (layoutOfCard card)) (carries (layoutOfCard card)) received b
     < copies (itemsOf (layoutOfCard card)) (carries (layoutOfCard card)) b)
     → payloadRead card received back ≡ record { report = done (blockBytes (cardOf card .kind)); out = block ++ drop (blockBytes (cardOf card .kind)) back }
-
--- twice the altered plus the lost carriers of a reception, held against what was made
-abbrev pub harm : List ℕ → List ℕ → List ℕ → ℕ
-harm card sent items = 2 * altered (carrierCount (bandOf card)) sent items + lost (carrierCount (bandOf card)) sent items
-
--- Demand 3, first half: below the fewest copies of a bit (12 on bands 0 and 1) the word comes back exact.
-abbrev pub Survives : Type 0
-Survives =
-    (card word : List ℕ) → GoodCard card → Word word → (out items back : List ℕ) → itemCount (bandOf card) ≤ length out → 16 ≤ length back
-    → Damage (itemCount (bandOf card)) items → harm card (made card word out) items < fewestCopies (bandOf card)
-    → read card items back ≡ record { report = done 16; out = word ++ drop 16 back }
-
--- Demand 3, second half: for every good card and word some damage of exactly that number is refused with 7.
-abbrev pub BestPossible : Type 0
-BestPossible =
-    (card word : List ℕ) → GoodCard card → Word word → (out back : List ℕ) → itemCount (bandOf card) ≤ length out → 16 ≤ length back
-    → (items : List ℕ) × Damage (itemCount (bandOf card)) items
-    × (harm card (made card word out) items ≡ fewestCopies (bandOf card)) × (number (read card items back .report) ≡ 7)
 
 -- The lengths that a caller makes room for: the items of a frame control by band, and the most items and bytes of a payload.
 abbrev pub Lengths : Type 0
