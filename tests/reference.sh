@@ -6,16 +6,17 @@ set -eu
 cd "$(dirname "$0")/.."
 library() {
   tests/library.sh
-  HPLC_LIB_DIR=$PWD/target/staticlib build --features entries
+  export HPLC_LIB_DIR=$PWD/target/staticlib
+  reference build --features core
 }
-build() { cargo build --quiet --release --offline --manifest-path reference/Cargo.toml "$@"; }
+reference() { cargo "$@" --quiet --release --offline --manifest-path reference/Cargo.toml; }
 
 case ${1-} in
   tests)
-    cargo test --quiet --release --offline --manifest-path reference/Cargo.toml
+    reference test
     ;;
   vectors)
-    build
+    reference build
     made=$(mktemp -d)
     trap 'rm -rf "$made"' EXIT
     for name in turbo interleaver; do
@@ -31,6 +32,7 @@ case ${1-} in
     ;;
   crosscheck)
     library
+    reference test --features core --bin crosscheck
     reference/target/release/crosscheck --calls "${CALLS-200000}" ${SEED+--seed "$SEED"}
     ;;
   bench)

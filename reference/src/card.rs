@@ -19,6 +19,21 @@ pub struct Card {
     pub serial: u64,
 }
 
+impl Card {
+    pub const fn fields(&self) -> Fields {
+        Fields {
+            version: 1,
+            band: self.band as u64,
+            kind: self.kind as u64,
+            rate: self.rate as u64,
+            modulation: self.modulation as u64,
+            taps: self.taps as u64,
+            spare: 0,
+            serial: self.serial,
+        }
+    }
+}
+
 /// The fields a writer hands over. Each is wide enough to hold a value that doesn't fit its bits.
 #[derive(Clone, Copy, Debug, PartialEq, Eq)]
 pub struct Fields {
@@ -165,17 +180,7 @@ pub fn text(card: &[u8]) -> String {
 #[cfg(test)]
 mod tests {
     use super::*;
-
-    const GOOD: Fields = Fields {
-        version: 1,
-        band: 0,
-        kind: 4,
-        rate: 1,
-        modulation: 1,
-        taps: 0b10001000111,
-        spare: 0,
-        serial: 9_007_199_254_740_993,
-    };
+    use crate::cases::EXAMPLE as GOOD;
 
     fn written(fields: Fields) -> u32 {
         let mut out = [0xAA; CARD_BYTES];
@@ -222,17 +227,7 @@ mod tests {
                 Err(refusal) => assert_eq!(refusal, Report::refused(expected, 0)),
                 Ok(card) => {
                     assert_eq!(expected, 0);
-                    let read_back = Fields {
-                        version: 1,
-                        band: card.band.into(),
-                        kind: card.kind.into(),
-                        rate: card.rate.into(),
-                        modulation: card.modulation.into(),
-                        taps: card.taps.into(),
-                        spare: 0,
-                        serial: card.serial,
-                    };
-                    assert_eq!(read_back, fields);
+                    assert_eq!(card.fields(), fields);
                     let mut again = [0; CARD_BYTES];
                     assert_eq!(write(&fields, &mut again), Report::done(CARD_BYTES));
                     assert_eq!(again, bytes);

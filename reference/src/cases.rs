@@ -3,7 +3,7 @@
 
 use std::ops::Range;
 
-use crate::card::{self, Fields, CARD_BYTES};
+use crate::card::{self, Card, Fields, CARD_BYTES};
 use crate::carriers::{self, Band, BANDS};
 use crate::interface::Entry;
 use crate::interleaver::{self, coded_bits, data_bits};
@@ -78,6 +78,20 @@ pub const EXAMPLE: Fields = Fields {
     serial: 9_007_199_254_740_993,
 };
 
+/// Room for any answer.
+pub const AMPLE: usize = 9_900;
+
+/// Some taps: none, all, those of the example, and others.
+pub const TAPS: [u16; 6] = [0, 1095, 2047, 682, 1365, 731];
+
+/// Kind and rate of every coding.
+pub const CODINGS: [(u8, u8); 6] = [(0, 0), (1, 0), (2, 0), (3, 0), (4, 0), (4, 1)];
+
+/// All combinations of so many bits, d0 changing fastest.
+pub fn all_bits(count: usize) -> impl Iterator<Item = Vec<u8>> {
+    (0..1u8 << count).map(move |v| (0..count).map(|k| v >> k & 1).collect())
+}
+
 /// A defined mode.
 #[derive(Clone, Copy, Debug, PartialEq, Eq)]
 pub struct Mode {
@@ -91,47 +105,46 @@ pub struct Mode {
 pub fn modes() -> Vec<Mode> {
     let mut modes = Vec::new();
     for band in 0..2 {
-        modes.push(Mode {
-            band,
-            kind: 0,
-            rate: 0,
-            modulation: 1,
-        });
-        for (kind, rate) in [(1, 0), (2, 0), (3, 0), (4, 0), (4, 1)] {
-            modes.extend((0..3).map(|modulation| Mode {
-                band,
-                kind,
-                rate,
-                modulation,
-            }));
+        modes.push(Mode::frame_control(band));
+        for (kind, rate) in &CODINGS[1..] {
+            modes.extend((0..3).map(|modulation| Mode::new(band, *kind, *rate, modulation)));
         }
     }
     modes
 }
 
 impl Mode {
-    /// A frame control of a band.
-    pub const fn frame_control(band: u8) -> Mode {
+    pub const fn new(band: u8, kind: u8, rate: u8, modulation: u8) -> Mode {
         Mode {
             band,
-            kind: 0,
-            rate: 0,
-            modulation: 1,
+            kind,
+            rate,
+            modulation,
         }
     }
 
+    /// A frame control of a band.
+    pub const fn frame_control(band: u8) -> Mode {
+        Mode::new(band, 0, 0, 1)
+    }
+
+    /// The mode of a good card.
+    pub fn of(card: &[u8]) -> Option<Mode> {
+        let card = card::read(card).ok()?;
+        Some(Mode::new(card.band, card.kind, card.rate, card.modulation))
+    }
+
     /// The fields of the mode's card.
-    pub fn fields(&self, taps: u16, serial: u64) -> Fields {
-        Fields {
-            version: 1,
-            band: self.band.into(),
-            kind: self.kind.into(),
-            rate: self.rate.into(),
-            modulation: self.modulation.into(),
-            taps: taps.into(),
-            spare: 0,
+    pub const fn fields(&self, taps: u16, serial: u64) -> Fields {
+        let card = Card {
+            band: self.band,
+            kind: self.kind,
+            rate: self.rate,
+            modulation: self.modulation,
+            taps,
             serial,
-        }
+        };
+        card.fields()
     }
 
     pub fn card(&self, taps: u16, serial: u64) -> [u8; CARD_BYTES] {
@@ -151,11 +164,7 @@ impl Mode {
 
     /// The entry that sends and the one that reads.
     pub const fn entries(&self) -> (Entry, Entry) {
-        if self.kind == 0 {
-            (Entry::FcSend, Entry::FcRead)
-        } else {
-            (Entry::PayloadSend, Entry::PayloadRead)
-        }
+        Entry::of_kind(self.kind)
     }
 
     const fn band(&self) -> &'static Band {
@@ -234,6 +243,16 @@ impl Reception {
         let mut sent = vec![0; mode.items()];
         let report = mode.entries().0.call(&card, &block, &mut sent);
         assert_eq!(report, Report::done(sent.len()), "{mode:?}");
+        Reception::of_items(mode, card, block, sent)
+    }
+
+    /// Items that were sent for a block, received as they were sent.
+    pub fn of_items(
+        mode: Mode,
+        card: [u8; CARD_BYTES],
+        block: Vec<u8>,
+        sent: Vec<u8>,
+    ) -> Reception {
         let items = sent.clone();
         Reception {
             mode,
@@ -369,11 +388,7 @@ mod tests {
         let modes = modes();
         assert_eq!(modes.len(), 32);
         for mode in modes {
-            let card = card::read(&mode.card(2047, 5)).unwrap();
-            assert_eq!(
-                (card.band, card.kind, card.rate, card.modulation),
-                (mode.band, mode.kind, mode.rate, mode.modulation)
-            );
+            assert_eq!(Mode::of(&mode.card(2047, 5)), Some(mode));
         }
     }
 

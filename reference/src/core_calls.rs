@@ -4,7 +4,7 @@
 
 use std::ptr;
 
-#[cfg(feature = "entries")]
+use crate::card::CARD_FIELDS;
 use crate::interface::Entry;
 
 extern "C" {
@@ -57,49 +57,34 @@ extern "C" {
 }
 
 /// What the four entries look like.
-#[cfg(feature = "entries")]
 type EntryFunction =
     unsafe extern "C" fn(*const u8, usize, *const u8, usize, *mut u8, usize, *mut u64) -> u32;
 
-#[cfg(feature = "entries")]
-extern "C" {
-    fn hplc_fc_send(
-        card: *const u8,
-        card_len: usize,
-        input: *const u8,
-        input_len: usize,
-        out: *mut u8,
-        out_len: usize,
-        value: *mut u64,
-    ) -> u32;
-    fn hplc_fc_read(
-        card: *const u8,
-        card_len: usize,
-        input: *const u8,
-        input_len: usize,
-        out: *mut u8,
-        out_len: usize,
-        value: *mut u64,
-    ) -> u32;
-    fn hplc_payload_send(
-        card: *const u8,
-        card_len: usize,
-        input: *const u8,
-        input_len: usize,
-        out: *mut u8,
-        out_len: usize,
-        value: *mut u64,
-    ) -> u32;
-    fn hplc_payload_read(
-        card: *const u8,
-        card_len: usize,
-        input: *const u8,
-        input_len: usize,
-        out: *mut u8,
-        out_len: usize,
-        value: *mut u64,
-    ) -> u32;
+/// Declares functions that look so.
+macro_rules! entries {
+    ($($name:ident),*) => {
+        extern "C" {
+            $(
+                fn $name(
+                    card: *const u8,
+                    card_len: usize,
+                    input: *const u8,
+                    input_len: usize,
+                    out: *mut u8,
+                    out_len: usize,
+                    value: *mut u64,
+                ) -> u32;
+            )*
+        }
+    };
 }
+
+entries!(
+    hplc_fc_send,
+    hplc_fc_read,
+    hplc_payload_send,
+    hplc_payload_read
+);
 
 /// Two numbers, as the C side stores them.
 pub type Value = [u64; 2];
@@ -142,23 +127,15 @@ impl Core {
         unsafe { hplc_card_read(from, card.len(), to, fields.len(), value.as_mut_ptr()) }
     }
 
-    pub fn card_write(&self, fields: &[u64; 8], out: &mut [u8], value: &mut Value) -> u32 {
-        let [version, band, kind, rate, modulation, taps, spare, serial] = *fields;
-        unsafe {
-            hplc_card_write(
-                version,
-                band,
-                kind,
-                rate,
-                modulation,
-                taps,
-                spare,
-                serial,
-                self.output(out),
-                out.len(),
-                value.as_mut_ptr(),
-            )
-        }
+    pub fn card_write(
+        &self,
+        fields: &[u64; CARD_FIELDS],
+        out: &mut [u8],
+        value: &mut Value,
+    ) -> u32 {
+        let [a, b, c, d, e, f, g, h] = *fields;
+        let (to, room, value) = (self.output(out), out.len(), value.as_mut_ptr());
+        unsafe { hplc_card_write(a, b, c, d, e, f, g, h, to, room, value) }
     }
 
     pub fn card_text(&self, card: &[u8], out: &mut [u8], value: &mut Value) -> u32 {
@@ -201,7 +178,6 @@ impl Core {
         unsafe { hplc_sub_carrier_of_place(band, place, value.as_mut_ptr()) }
     }
 
-    #[cfg(feature = "entries")]
     pub fn entry(
         &self,
         entry: Entry,

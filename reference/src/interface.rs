@@ -26,31 +26,16 @@ fn put<T: Copy>(answer: &[T], out: &mut [T]) -> Report {
 fn found(answer: Result<u64, Report>) -> Report {
     answer.map_or_else(
         |refusal| refusal,
-        |value| Report {
-            number: number::DONE,
-            value,
-            second: 0,
-        },
+        |value| Report::new(number::DONE, [value, 0]),
     )
 }
 
 /// `hplc_card_read`: version, band, kind, rate, modulation, taps, spare, serial.
 pub fn card_read(card: &[u8], fields: &mut [u64]) -> Report {
-    let card = match card::read(card) {
-        Ok(card) => card,
-        Err(refusal) => return refusal,
-    };
-    let all: [u64; CARD_FIELDS] = [
-        1,
-        card.band.into(),
-        card.kind.into(),
-        card.rate.into(),
-        card.modulation.into(),
-        card.taps.into(),
-        0,
-        card.serial,
-    ];
-    put(&all, fields)
+    match card::read(card) {
+        Ok(card) => put(&card.fields().to_array(), fields),
+        Err(refusal) => refusal,
+    }
 }
 
 /// `hplc_card_write`, its fields in the order of `card_read`.
@@ -114,6 +99,15 @@ impl Entry {
         Entry::PayloadRead,
     ];
 
+    /// The entry that sends a kind of card and the one that reads it.
+    pub const fn of_kind(kind: u8) -> (Entry, Entry) {
+        if kind == 0 {
+            (Entry::FcSend, Entry::FcRead)
+        } else {
+            (Entry::PayloadSend, Entry::PayloadRead)
+        }
+    }
+
     /// The C function's name.
     pub const fn name(self) -> &'static str {
         match self {
@@ -142,34 +136,35 @@ impl Entry {
 #[cfg(test)]
 mod tests {
     use super::*;
-
-    const EXAMPLE: [u8; 11] = [0x12, 0x58, 0x8E, 0x00, 0x20, 0, 0, 0, 0, 0, 1];
-    const FIELDS: [u64; 8] = [1, 0, 4, 1, 1, 0b10001000111, 0, 9_007_199_254_740_993];
+    use crate::card::pack;
+    use crate::cases::EXAMPLE;
 
     #[test]
     fn fields_of_the_example_and_back() {
         let mut fields = [7; 9];
-        assert_eq!(card_read(&EXAMPLE, &mut fields), Report::done(8));
-        assert_eq!(fields[..8], FIELDS);
+        let example = pack(&EXAMPLE);
+        assert_eq!(card_read(&example, &mut fields), Report::done(8));
+        assert_eq!(fields[..8], EXAMPLE.to_array());
         assert_eq!(fields[8], 7);
         let mut card = [0; 11];
-        assert_eq!(card_write(&FIELDS, &mut card), Report::done(11));
-        assert_eq!(card, EXAMPLE);
+        let report = card_write(&EXAMPLE.to_array(), &mut card);
+        assert_eq!((report, card), (Report::done(11), example));
     }
 
     #[test]
     fn room_is_judged_after_the_card_and_before_the_items() {
+        let example = pack(&EXAMPLE);
         let mut fields = [7; 7];
-        assert_eq!(card_read(&EXAMPLE, &mut fields), Report::refused(5, 8));
+        assert_eq!(card_read(&example, &mut fields), Report::refused(5, 8));
         assert_eq!(
-            card_read(&EXAMPLE[..10], &mut fields),
+            card_read(&example[..10], &mut fields),
             Report::refused(1, 10)
         );
         assert_eq!(fields, [7; 7]);
 
         let mut text = [7; 200];
-        let length = card::text(&EXAMPLE).len();
-        let short = card_text(&EXAMPLE, &mut text[..length - 1]);
+        let length = card::text(&example).len();
+        let short = card_text(&example, &mut text[..length - 1]);
         assert_eq!(short, Report::refused(5, length as u64));
         assert_eq!(card_text(&[], &mut text[..9]), Report::refused(5, 10));
         assert_eq!(text, [7; 200]);

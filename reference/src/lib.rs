@@ -1,7 +1,7 @@
 //! An independent second implementation of the bench tester's core.
 //!
-//! It is written from the papers alone: "01" in the comments is papers/01-scope.md, "000" is
-//! Q/GDW 11612.41-2016 and "D1", "D2", .. are the entries of DECISIONS.md.
+//! It is written from the papers alone: "01" in the comments is the paper with the exact rules,
+//! "000" is Q/GDW 11612.41-2016 and "D1", "D2", .. are the entries of docs/DECISIONS.md.
 
 pub mod card;
 pub mod carriers;
@@ -42,21 +42,22 @@ pub struct Report {
 }
 
 impl Report {
+    /// A number and both values, as the C side gives them.
+    pub const fn new(number: u32, [value, second]: [u64; 2]) -> Report {
+        Report {
+            number,
+            value,
+            second,
+        }
+    }
+
     /// Number 0, with the count of elements written (D10).
     pub const fn done(count: usize) -> Report {
-        Report {
-            number: number::DONE,
-            value: count as u64,
-            second: 0,
-        }
+        Report::new(number::DONE, [count as u64, 0])
     }
 
     /// A refusal and what comes with it.
     pub const fn refused(number: u32, value: u64) -> Report {
-        Report {
-            number,
-            value,
-            second: 0,
-        }
+        Report::new(number, [value, 0])
     }
 }

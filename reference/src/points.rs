@@ -165,6 +165,7 @@ pub fn slice(modulation: u64, received: Received) -> Result<Items, Report> {
 #[cfg(test)]
 mod tests {
     use super::*;
+    use crate::cases::all_bits;
 
     #[test]
     fn factors_have_the_bits_d13_prints() {
@@ -176,8 +177,7 @@ mod tests {
     fn every_point_is_sliced_to_its_bits() {
         for modulation in [BPSK, QPSK, QAM16] {
             let count = bits_per_carrier(modulation).unwrap();
-            for v in 0..1u8 << count {
-                let bits: Vec<u8> = (0..count).map(|k| v >> k & 1).collect();
+            for bits in all_bits(count) {
                 let point = map(modulation, &bits).unwrap();
                 let items = slice(modulation, Received::Heard(point.i, point.q)).unwrap();
                 assert_eq!(items.as_slice(), bits);

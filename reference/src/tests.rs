@@ -1,141 +1,44 @@
 //! The bench checks P1 to P12 of 01, and the entries in all defined modes.
 
-use crate::card::{self, Fields};
+use crate::card;
 use crate::carriers::{self, BANDS};
-use crate::entries::{fc_read, fc_send, payload_read, payload_send};
+use crate::cases::{modes, Mode, Random, EXAMPLE, TAPS};
+use crate::interface::Entry;
 use crate::scrambler::{scramble, Scrambler};
 use crate::turbo::{interleaved_from, SIZES};
 use crate::{interleaver, turbo, Report};
 
-type Entry = fn(&[u8], &[u8], &mut [u8]) -> Report;
+const SERIAL: u64 = 0xFEDC_BA98_7654_3210;
 
-const SOME_TAPS: [u16; 6] = [0, 1095, 2047, 682, 1365, 731];
-
-/// Whole numbers that look random.
-struct Random(u64);
-
-impl Random {
-    fn next(&mut self, below: usize) -> usize {
-        self.0 = self
-            .0
-            .wrapping_mul(6364136223846793005)
-            .wrapping_add(1442695040888963407);
-        (self.0 >> 33) as usize % below
-    }
-
-    fn bytes(&mut self, length: usize) -> Vec<u8> {
-        (0..length).map(|_| self.next(256) as u8).collect()
-    }
-}
-
-/// A mode with its taps.
-#[derive(Clone, Copy, Debug)]
-struct Mode {
-    band: u8,
-    kind: u8,
-    rate: u8,
-    modulation: u8,
-    taps: u16,
-}
-
-impl Mode {
-    fn card(&self) -> [u8; 11] {
-        let fields = Fields {
-            version: 1,
-            band: self.band.into(),
-            kind: self.kind.into(),
-            rate: self.rate.into(),
-            modulation: self.modulation.into(),
-            taps: self.taps.into(),
-            spare: 0,
-            serial: 0xFEDC_BA98_7654_3210,
+/// The coded bit of every item, straight from 01.
+fn item_bits(mode: Mode) -> Vec<usize> {
+    let (places, symbols) = if mode.band == 0 { (411, 4) } else { (131, 12) };
+    if mode.kind > 0 {
+        let coded = match mode.rate {
+            0 => 16 * [16, 72, 136, 264, 520][usize::from(mode.kind)],
+            _ => 4680,
         };
-        let mut card = [0; 11];
-        assert_eq!(card::write(&fields, &mut card), Report::done(11));
-        card
+        let per_symbol = places * [1, 2, 4][usize::from(mode.modulation)];
+        let items = usize::div_ceil(coded, per_symbol) * per_symbol;
+        return (0..items).map(|n| n % coded).collect();
     }
-
-    fn send(&self) -> Entry {
-        if self.kind == 0 {
-            fc_send
-        } else {
-            payload_send
+    let offsets = [0, 192, 160, 96, 144, 80, 48, 240, 24, 184, 136, 40];
+    let mut bits = Vec::new();
+    for o in &offsets[..symbols] {
+        for c in 0..places {
+            bits.extend([(c + o) % 256, (c + o + 128) % 256]);
         }
     }
-
-    fn read(&self) -> Entry {
-        if self.kind == 0 {
-            fc_read
-        } else {
-            payload_read
-        }
-    }
-
-    fn bytes(&self) -> usize {
-        [16, 72, 136, 264, 520][usize::from(self.kind)]
-    }
-
-    fn coded(&self) -> usize {
-        if self.rate == 1 {
-            4680
-        } else {
-            16 * self.bytes()
-        }
-    }
-
-    /// The coded bit of every item, straight from 01.
-    fn item_bits(&self) -> Vec<usize> {
-        let (places, symbols) = if self.band == 0 { (411, 4) } else { (131, 12) };
-        if self.kind > 0 {
-            let per_symbol = places * [1, 2, 4][usize::from(self.modulation)];
-            let items = self.coded().div_ceil(per_symbol) * per_symbol;
-            return (0..items).map(|n| n % self.coded()).collect();
-        }
-        let offsets = [0, 192, 160, 96, 144, 80, 48, 240, 24, 184, 136, 40];
-        let mut bits = Vec::new();
-        for o in &offsets[..symbols] {
-            for c in 0..places {
-                bits.extend([(c + o) % 256, (c + o + 128) % 256]);
-            }
-        }
-        bits
-    }
-
-    /// Sends a block and gives exactly the items.
-    fn sent(&self, block: &[u8]) -> Vec<u8> {
-        let mut out = vec![7; self.item_bits().len()];
-        assert_eq!(
-            self.send()(&self.card(), block, &mut out),
-            Report::done(out.len())
-        );
-        out
-    }
+    bits
 }
 
-/// All defined modes, with the given taps.
-fn modes(taps: u16) -> Vec<Mode> {
-    let mut modes = Vec::new();
-    for band in 0..2 {
-        modes.push(Mode {
-            band,
-            kind: 0,
-            rate: 0,
-            modulation: 1,
-            taps,
-        });
-        for modulation in 0..3 {
-            for (kind, rate) in [(1, 0), (2, 0), (3, 0), (4, 0), (4, 1)] {
-                modes.push(Mode {
-                    band,
-                    kind,
-                    rate,
-                    modulation,
-                    taps,
-                });
-            }
-        }
-    }
-    modes
+/// Sends a block and gives exactly the items.
+fn sent(mode: Mode, taps: u16, block: &[u8]) -> Vec<u8> {
+    let (card, (send, _)) = (mode.card(taps, SERIAL), mode.entries());
+    let mut out = vec![7; item_bits(mode).len()];
+    let report = send.call(&card, block, &mut out);
+    assert_eq!(report, Report::done(out.len()));
+    out
 }
 
 fn bits_of(bytes: &[u8]) -> Vec<u8> {
@@ -146,12 +49,12 @@ fn bits_of(bytes: &[u8]) -> Vec<u8> {
 }
 
 /// What a reading side must answer, by the words of 01 and by other code than the entries'.
-fn plain_read(mode: &Mode, items: &[u8]) -> Result<Vec<u8>, Report> {
+fn plain_read(mode: Mode, taps: u16, items: &[u8]) -> Result<Vec<u8>, Report> {
     if let Some(n) = (0..items.len()).find(|&n| ![0, 1, 2].contains(&items[n])) {
         return Err(Report::refused(6, n as u64));
     }
     let mut counts = vec![[0; 3]; mode.coded()];
-    for (&item, bit) in items.iter().zip(mode.item_bits()) {
+    for (&item, bit) in items.iter().zip(item_bits(mode)) {
         counts[bit][usize::from(item)] += 1;
     }
     if let Some(bit) = counts.iter().position(|count| count[0] == count[1]) {
@@ -167,7 +70,7 @@ fn plain_read(mode: &Mode, items: &[u8]) -> Result<Vec<u8>, Report> {
         .map(|bits| (0..8).map(|k| bits[k] << (7 - k)).sum())
         .collect();
     let mut anew = vec![0; parity.len()];
-    turbo::encode(mode.kind, mode.rate, mode.taps, &block, &mut anew);
+    turbo::encode(mode.kind, mode.rate, taps, &block, &mut anew);
     let wrong = (0..parity.len()).filter(|&n| anew[n] != parity[n]).count();
     if wrong > 0 {
         return Err(Report::refused(8, wrong as u64));
@@ -179,10 +82,11 @@ fn plain_read(mode: &Mode, items: &[u8]) -> Result<Vec<u8>, Report> {
 }
 
 /// Reads items and holds the answer and every byte of the output against `plain_read`.
-fn check_read(mode: &Mode, items: &[u8]) -> Report {
+fn check_read(mode: Mode, taps: u16, items: &[u8]) -> Report {
+    let (card, (_, read)) = (mode.card(taps, SERIAL), mode.entries());
     let mut out = vec![0xA5; mode.bytes() + 3];
-    let report = mode.read()(&mode.card(), items, &mut out);
-    match plain_read(mode, items) {
+    let report = read.call(&card, items, &mut out);
+    match plain_read(mode, taps, items) {
         Ok(block) => {
             assert_eq!(report, Report::done(mode.bytes()), "{mode:?}");
             assert_eq!(out[..mode.bytes()], block);
@@ -273,18 +177,8 @@ fn p11_the_card_of_the_example() {
     let text = "version 1\nband 0\nkind 4\nrate 1\nmodulation 1\ntaps 10001000111\n\
                 serial 9007199254740993\n";
     assert_eq!(card::text(&bytes), text);
-    let fields = Fields {
-        version: 1,
-        band: 0,
-        kind: 4,
-        rate: 1,
-        modulation: 1,
-        taps: 0b10001000111,
-        spare: 0,
-        serial: 9_007_199_254_740_993,
-    };
     let mut out = [0; 11];
-    assert_eq!(card::write(&fields, &mut out), Report::done(11));
+    assert_eq!(card::write(&EXAMPLE, &mut out), Report::done(11));
     assert_eq!(out, bytes);
     // Refused cards print their number alone: band 2, kind 5, version 2, spare 1.
     for (index, byte, expected) in [(0, 0x1A, 3), (1, 0xD8, 3), (0, 0x22, 2), (2, 0x8F, 2)] {
@@ -305,18 +199,19 @@ fn p12_layout_of_4680_coded_bits() {
 
 #[test]
 fn round_trips_in_all_defined_modes() {
-    let mut random = Random(1);
-    for taps in SOME_TAPS {
-        for mode in modes(taps) {
+    let mut random = Random::new(1);
+    for taps in TAPS {
+        for mode in modes() {
+            let (card, (send, read)) = (mode.card(taps, SERIAL), mode.entries());
             let block = random.bytes(mode.bytes());
-            let needed = mode.item_bits().len();
+            let needed = item_bits(mode).len();
             let mut items = vec![7; needed + 5];
-            let report = mode.send()(&mode.card(), &block, &mut items);
+            let report = send.call(&card, &block, &mut items);
             assert_eq!(report, Report::done(needed), "{mode:?}");
             assert_eq!(items[needed..], [7; 5]);
             assert!(items[..needed].iter().all(|&item| item < 2));
             let mut back = vec![0xA5; mode.bytes() + 1];
-            let report = mode.read()(&mode.card(), &items[..needed], &mut back);
+            let report = read.call(&card, &items[..needed], &mut back);
             assert_eq!(report, Report::done(mode.bytes()), "{mode:?}");
             assert_eq!(back[..mode.bytes()], block);
             assert_eq!(back[mode.bytes()], 0xA5);
@@ -326,8 +221,9 @@ fn round_trips_in_all_defined_modes() {
 
 #[test]
 fn items_are_the_coded_bits_of_the_scrambled_block() {
-    let mut random = Random(2);
-    for mode in modes(731) {
+    let mut random = Random::new(2);
+    let taps = 731;
+    for mode in modes() {
         let block = random.bytes(mode.bytes());
         let mut input = block.clone();
         if mode.kind > 0 {
@@ -335,28 +231,21 @@ fn items_are_the_coded_bits_of_the_scrambled_block() {
         }
         let mut joined = bits_of(&input);
         let mut parity = vec![0; mode.coded() - joined.len()];
-        turbo::encode(mode.kind, mode.rate, mode.taps, &input, &mut parity);
+        turbo::encode(mode.kind, mode.rate, taps, &input, &mut parity);
         joined.extend(parity);
         let mut coded = vec![0; mode.coded()];
         interleaver::shuffle(mode.kind, mode.rate, &joined, &mut coded);
-        let expected: Vec<u8> = mode.item_bits().iter().map(|&bit| coded[bit]).collect();
-        assert_eq!(mode.sent(&block), expected);
+        let expected: Vec<u8> = item_bits(mode).iter().map(|&bit| coded[bit]).collect();
+        assert_eq!(sent(mode, taps, &block), expected);
     }
 }
 
 #[test]
 fn counts_of_items() {
-    let count = |band, kind, rate, modulation| {
-        Mode {
-            band,
-            kind,
-            rate,
-            modulation,
-            taps: 0,
-        }
-        .item_bits()
-        .len()
-    };
+    for mode in modes() {
+        assert_eq!(mode.items(), item_bits(mode).len());
+    }
+    let count = |band, kind, rate, modulation| Mode::new(band, kind, rate, modulation).items();
     assert_eq!(count(0, 0, 0, 1), 3288);
     assert_eq!(count(1, 0, 0, 1), 3144);
     assert_eq!(count(0, 4, 1, 1), 4932);
@@ -366,18 +255,19 @@ fn counts_of_items() {
 
 #[test]
 fn both_sides_of_each_length() {
-    for mode in modes(1365) {
-        let (card, bytes, items) = (mode.card(), mode.bytes(), mode.item_bits().len());
-        for (entry, input, output) in [(mode.send(), bytes, items), (mode.read(), items, bytes)] {
+    for mode in modes() {
+        let (card, (send, read)) = (mode.card(1365, SERIAL), mode.entries());
+        let (bytes, items) = (mode.bytes(), item_bits(mode).len());
+        for (entry, input, output) in [(send, bytes, items), (read, items, bytes)] {
             for length in [0, input - 1, input + 1] {
                 let mut out = vec![0xA5; output];
-                let report = entry(&card, &vec![0; length], &mut out);
+                let report = entry.call(&card, &vec![0; length], &mut out);
                 assert_eq!(report, Report::refused(4, length as u64));
                 assert!(out.iter().all(|&byte| byte == 0xA5));
             }
             for length in [0, output - 1] {
                 let mut out = vec![0xA5; length];
-                let report = entry(&card, &vec![0; input], &mut out);
+                let report = entry.call(&card, &vec![0; input], &mut out);
                 assert_eq!(report, Report::refused(5, output as u64));
                 assert!(out.iter().all(|&byte| byte == 0xA5));
             }
@@ -387,32 +277,16 @@ fn both_sides_of_each_length() {
 
 #[test]
 fn cards_are_refused_before_all_else() {
-    let good = Mode {
-        band: 0,
-        kind: 0,
-        rate: 0,
-        modulation: 1,
-        taps: 5,
-    }
-    .card();
-    let payload = Mode {
-        band: 0,
-        kind: 1,
-        rate: 0,
-        modulation: 1,
-        taps: 5,
-    }
-    .card();
-    let entries: [(Entry, &[u8; 11]); 4] = [
-        (fc_send, &payload),
-        (fc_read, &payload),
-        (payload_send, &good),
-        (payload_read, &good),
-    ];
-    for (entry, other) in entries {
+    let good = Mode::frame_control(0).card(5, SERIAL);
+    let payload = Mode::new(0, 1, 0, 1).card(5, SERIAL);
+    for entry in Entry::ALL {
+        let other = match entry {
+            Entry::FcSend | Entry::FcRead => &payload,
+            Entry::PayloadSend | Entry::PayloadRead => &good,
+        };
         let mut out = [0xA5; 3];
         let mut number = |card: &[u8]| {
-            let report = entry(card, &[9; 5], &mut out);
+            let report = entry.call(card, &[9; 5], &mut out);
             assert_eq!(out, [0xA5; 3]);
             (report.number, report.value)
         };
@@ -429,9 +303,10 @@ fn cards_are_refused_before_all_else() {
 
 #[test]
 fn reading_refuses_in_row_order() {
-    for mode in modes(1095) {
-        let (card, read) = (mode.card(), mode.read());
-        let sent = mode.sent(&vec![0x3C; mode.bytes()]);
+    for mode in modes() {
+        let card = mode.card(1095, SERIAL);
+        let read = |items: &[u8], out: &mut [u8]| mode.entries().1.call(&card, items, out);
+        let sent = sent(mode, 1095, &vec![0x3C; mode.bytes()]);
         let mut out = vec![0xA5; mode.bytes()];
         let short = mode.bytes() - 1;
 
@@ -440,17 +315,17 @@ fn reading_refuses_in_row_order() {
         items[7] = 255;
         items[5] = 3;
         items.push(9);
-        let report = read(&card, &items, &mut out[..short]);
+        let report = read(&items, &mut out[..short]);
         assert_eq!(report, Report::refused(4, items.len() as u64));
         items.pop();
-        let report = read(&card, &items, &mut out[..short]);
+        let report = read(&items, &mut out[..short]);
         assert_eq!(report, Report::refused(5, mode.bytes() as u64));
-        assert_eq!(read(&card, &items, &mut out), Report::refused(6, 5));
+        assert_eq!(read(&items, &mut out), Report::refused(6, 5));
         items[5] = 2;
-        assert_eq!(read(&card, &items, &mut out), Report::refused(6, 7));
+        assert_eq!(read(&items, &mut out), Report::refused(6, 7));
 
         // All copies of bits 100 and 40 lost, and parity wrong besides.
-        let bits = mode.item_bits();
+        let bits = item_bits(mode);
         let mut parity_place = 0;
         interleaver::for_each_coded(mode.kind, mode.rate, |to, from| {
             if from == 8 * mode.bytes() + 3 {
@@ -465,18 +340,18 @@ fn reading_refuses_in_row_order() {
                 *item = 2;
             }
         }
-        assert_eq!(read(&card, &items, &mut out), Report::refused(7, 40));
+        assert_eq!(read(&items, &mut out), Report::refused(7, 40));
         for (item, (&bit, &was)) in items.iter_mut().zip(bits.iter().zip(&sent)) {
             if bit != parity_place {
                 *item = was;
             }
         }
-        assert_eq!(read(&card, &items, &mut out), Report::refused(8, 1));
+        assert_eq!(read(&items, &mut out), Report::refused(8, 1));
         assert!(out.iter().all(|&byte| byte == 0xA5));
 
         let all_lost = vec![2; sent.len()];
-        assert_eq!(read(&card, &all_lost, &mut out), Report::refused(7, 0));
-        let report = read(&card, &sent, &mut out);
+        assert_eq!(read(&all_lost, &mut out), Report::refused(7, 0));
+        let report = read(&sent, &mut out);
         assert_eq!(report, Report::done(mode.bytes()));
         assert!(out.iter().all(|&byte| byte == 0x3C));
     }
@@ -485,12 +360,12 @@ fn reading_refuses_in_row_order() {
 #[test]
 fn the_count_of_refusal_8() {
     // The encoder is linear: wrong data bits alter the parity by the parity of the change.
-    let mut random = Random(3);
-    for taps in SOME_TAPS {
-        for mode in modes(taps) {
+    let mut random = Random::new(3);
+    for taps in TAPS {
+        for mode in modes() {
             let mut change = vec![0; mode.bytes()];
             for _ in 0..3 {
-                change[random.next(mode.bytes())] ^= 1 << random.next(8);
+                change[random.below(mode.bytes())] ^= 1 << random.below(8);
             }
             let mut parity = vec![0; mode.coded() - 8 * mode.bytes()];
             turbo::encode(mode.kind, mode.rate, taps, &change, &mut parity);
@@ -503,14 +378,14 @@ fn the_count_of_refusal_8() {
             interleaver::for_each_coded(mode.kind, mode.rate, |to, from| {
                 flip[to] = data.get(from).copied().unwrap_or(0);
             });
-            let sent = mode.sent(&block);
-            let items: Vec<u8> = sent
+            let items: Vec<u8> = sent(mode, taps, &block)
                 .iter()
-                .zip(mode.item_bits())
+                .zip(item_bits(mode))
                 .map(|(item, bit)| item ^ flip[bit])
                 .collect();
             let mut out = vec![0xA5; mode.bytes()];
-            let report = mode.read()(&mode.card(), &items, &mut out);
+            let (card, (_, read)) = (mode.card(taps, SERIAL), mode.entries());
+            let report = read.call(&card, &items, &mut out);
             if count > 0 {
                 assert_eq!(report, Report::refused(8, count as u64));
                 assert!(out.iter().all(|&byte| byte == 0xA5));
@@ -519,22 +394,23 @@ fn the_count_of_refusal_8() {
                 assert_eq!(report, Report::done(mode.bytes()));
                 assert_eq!(out, wrong);
             }
-            assert_eq!(check_read(&mode, &items), report);
+            assert_eq!(check_read(mode, taps, &items), report);
         }
     }
 }
 
 #[test]
 fn damage_is_judged_as_the_words_of_01_say() {
-    let mut random = Random(4);
+    let mut random = Random::new(4);
     let mut seen = [0; 10];
     for round in 0..60 {
-        for mode in modes(SOME_TAPS[round % 6]) {
+        let taps = TAPS[round % TAPS.len()];
+        for mode in modes() {
             if mode.kind > 1 && round > 5 {
                 continue;
             }
             let block = random.bytes(mode.bytes());
-            let mut items = mode.sent(&block);
+            let mut items = sent(mode, taps, &block);
             // From a few items to about a third, set to anything legal.
             let hits = if round % 2 == 0 {
                 items.len() / (3 + round)
@@ -542,14 +418,14 @@ fn damage_is_judged_as_the_words_of_01_say() {
                 round / 6
             };
             for _ in 0..hits {
-                let at = random.next(items.len());
-                items[at] = random.next(3) as u8;
+                let at = random.below(items.len());
+                items[at] = random.below(3) as u8;
             }
             if round % 10 == 9 {
-                let at = random.next(items.len());
-                items[at] = 3 + random.next(253) as u8;
+                let at = random.below(items.len());
+                items[at] = 3 + random.below(253) as u8;
             }
-            seen[check_read(&mode, &items).number as usize] += 1;
+            seen[check_read(mode, taps, &items).number as usize] += 1;
         }
     }
     assert!(
@@ -561,16 +437,10 @@ fn damage_is_judged_as_the_words_of_01_say() {
 #[test]
 fn few_wrong_frame_control_copies_are_outvoted() {
     for band in 0..2 {
-        let mode = Mode {
-            band,
-            kind: 0,
-            rate: 0,
-            modulation: 1,
-            taps: 1095,
-        };
+        let (mode, taps) = (Mode::frame_control(band), 1095);
         let word: Vec<u8> = (0..16).map(|n| n * 17).collect();
-        let sent = mode.sent(&word);
-        let bits = mode.item_bits();
+        let sent = sent(mode, taps, &word);
+        let bits = item_bits(mode);
         for bit in 0..256 {
             let places: Vec<usize> = (0..bits.len()).filter(|&n| bits[n] == bit).collect();
             for wrong in 0..=places.len() {
@@ -578,7 +448,7 @@ fn few_wrong_frame_control_copies_are_outvoted() {
                 for &place in &places[..wrong] {
                     items[place] ^= 1;
                 }
-                let report = check_read(&mode, &items);
+                let report = check_read(mode, taps, &items);
                 if 2 * wrong < places.len() {
                     assert_eq!(report, Report::done(16));
                 } else if 2 * wrong == places.len() {
@@ -593,22 +463,29 @@ fn few_wrong_frame_control_copies_are_outvoted() {
 
 #[test]
 fn pad_copies_vote() {
-    for mode in modes(2047).into_iter().filter(|mode| mode.kind > 0) {
-        let sent = mode.sent(&vec![0x77; mode.bytes()]);
+    let taps = 2047;
+    for mode in modes().into_iter().filter(|mode| mode.kind > 0) {
+        let sent = sent(mode, taps, &vec![0x77; mode.bytes()]);
         let pad = sent.len() - mode.coded();
         for bit in [0, pad / 2, pad - 1] {
             // One wrong copy of two is a tie; one lost copy of two leaves the other to decide.
             for place in [bit, mode.coded() + bit] {
                 let mut items = sent.clone();
                 items[place] ^= 1;
-                assert_eq!(check_read(&mode, &items), Report::refused(7, bit as u64));
+                assert_eq!(
+                    check_read(mode, taps, &items),
+                    Report::refused(7, bit as u64)
+                );
                 items[place] = 2;
-                assert_eq!(check_read(&mode, &items), Report::done(mode.bytes()));
+                assert_eq!(check_read(mode, taps, &items), Report::done(mode.bytes()));
             }
         }
         // A bit without a second copy that is lost has no majority.
         let mut items = sent.clone();
         items[pad] = 2;
-        assert_eq!(check_read(&mode, &items), Report::refused(7, pad as u64));
+        assert_eq!(
+            check_read(mode, taps, &items),
+            Report::refused(7, pad as u64)
+        );
     }
 }

@@ -65,12 +65,7 @@ impl Timed {
         };
         let mut values = [0; 2];
         let number = core.entry(self.entry, &self.card, &self.input, out, &mut values);
-        let [value, second] = values;
-        Report {
-            number,
-            value,
-            second,
-        }
+        Report::new(number, values)
     }
 
     fn reference(&self, out: &mut [u8]) -> Report {

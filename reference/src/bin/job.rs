@@ -21,8 +21,9 @@ const USAGE: &str = "usage: job encode CARD BLOCK
 /// More than any entry writes.
 const ROOM: usize = 10_000;
 
-fn is_frame_control(card: &[u8]) -> bool {
-    card::read(card).map_or(true, |card| card.kind == 0)
+/// The entries that send and read with a card. One that is refused goes to frame control (D19).
+fn entries(card: &[u8]) -> (Entry, Entry) {
+    Entry::of_kind(card::read(card).map_or(0, |card| card.kind))
 }
 
 /// What an entry wrote, or its refusal.
@@ -46,21 +47,11 @@ fn hex_line(bytes: Vec<u8>) -> Vec<u8> {
 }
 
 fn encode(card: &[u8], block: &[u8]) -> Vec<u8> {
-    let entry = if is_frame_control(card) {
-        Entry::FcSend
-    } else {
-        Entry::PayloadSend
-    };
-    call(entry, card, block).unwrap_or_else(refused)
+    call(entries(card).0, card, block).unwrap_or_else(refused)
 }
 
 fn decode(card: &[u8], items: &[u8]) -> Vec<u8> {
-    let entry = if is_frame_control(card) {
-        Entry::FcRead
-    } else {
-        Entry::PayloadRead
-    };
-    call(entry, card, items).map_or_else(refused, hex_line)
+    call(entries(card).1, card, items).map_or_else(refused, hex_line)
 }
 
 fn file(name: &str) -> Vec<u8> {

@@ -149,16 +149,8 @@ const WIDTHS: [u32; CARD_FIELDS] = [4, 2, 3, 1, 2, 11, 1, 64];
 
 /// The fields of a card with any taps and serial.
 fn fields_of(mode: Mode, random: &mut Random) -> [u64; CARD_FIELDS] {
-    [
-        1,
-        mode.band.into(),
-        mode.kind.into(),
-        mode.rate.into(),
-        mode.modulation.into(),
-        random.below(2048) as u64,
-        0,
-        random.word_of_any_size(),
-    ]
+    let taps = random.below(2048) as u16;
+    mode.fields(taps, random.word_of_any_size()).to_array()
 }
 
 /// Values about the ends of a field, and large ones whose low bits are the good value.

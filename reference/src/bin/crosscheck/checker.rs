@@ -4,10 +4,8 @@ use std::fmt::{self, Display, Formatter};
 
 use reference::cases::Random;
 use reference::core_calls::{Core, Empty, Value};
-use reference::{interface, Report};
-
-#[cfg(feature = "entries")]
-use reference::interface::Entry;
+use reference::interface::{self, Entry, CARD_FIELDS};
+use reference::Report;
 
 use crate::lent::{Element, Lent};
 
@@ -79,12 +77,7 @@ impl<T: Element> Loan<T> {
             unreachable!("two values are lent");
         };
         let number = call(core, &self.inputs, self.out.contents_mut(), value);
-        let [value, second] = *value;
-        Report {
-            number,
-            value,
-            second,
-        }
+        Report::new(number, *value)
     }
 
     /// Whatever was written that should not have been.
@@ -183,7 +176,6 @@ impl Checker {
     }
 
     /// Something that must hold of the last answer whatever the reference says.
-    #[cfg(feature = "entries")]
     pub fn claim(&mut self, holds: bool, call: impl FnOnce() -> String, what: &str) {
         if !holds {
             self.mismatch(&call(), &[what.to_string()]);
@@ -236,7 +228,7 @@ impl Checker {
         );
     }
 
-    pub fn card_write(&mut self, fields: &[u64; 8], room: usize) {
+    pub fn card_write(&mut self, fields: &[u64; CARD_FIELDS], room: usize) {
         let call = Call {
             name: "hplc_card_write",
             numbers: fields,
@@ -294,35 +286,46 @@ impl Checker {
         );
     }
 
-    pub fn place_of_sub_carrier(&mut self, band: u64, sub_carrier: u64) {
+    /// A number asked for by a band and a number.
+    fn asked(
+        &mut self,
+        name: &str,
+        numbers: [u64; 2],
+        reference: fn(u64, u64) -> Report,
+        core: fn(&Core, u64, u64, &mut Value) -> u32,
+    ) {
+        let [band, number] = numbers;
         let call = Call {
-            name: "hplc_place_of_sub_carrier",
-            numbers: &[band, sub_carrier],
+            name,
+            numbers: &numbers,
             inputs: &[],
             room: 0,
         };
         self.check(
             &call,
-            |_: &mut [u8]| interface::place_of_sub_carrier(band, sub_carrier),
-            |core, _, _, value| core.place_of_sub_carrier(band, sub_carrier, value),
+            |_: &mut [u8]| reference(band, number),
+            |library, _, _, value| core(library, band, number, value),
+        );
+    }
+
+    pub fn place_of_sub_carrier(&mut self, band: u64, sub_carrier: u64) {
+        self.asked(
+            "hplc_place_of_sub_carrier",
+            [band, sub_carrier],
+            interface::place_of_sub_carrier,
+            Core::place_of_sub_carrier,
         );
     }
 
     pub fn sub_carrier_of_place(&mut self, band: u64, place: u64) {
-        let call = Call {
-            name: "hplc_sub_carrier_of_place",
-            numbers: &[band, place],
-            inputs: &[],
-            room: 0,
-        };
-        self.check(
-            &call,
-            |_: &mut [u8]| interface::sub_carrier_of_place(band, place),
-            |core, _, _, value| core.sub_carrier_of_place(band, place, value),
+        self.asked(
+            "hplc_sub_carrier_of_place",
+            [band, place],
+            interface::sub_carrier_of_place,
+            Core::sub_carrier_of_place,
         );
     }
 
-    #[cfg(feature = "entries")]
     pub fn entry(
         &mut self,
         entry: Entry,

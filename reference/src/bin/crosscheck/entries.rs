@@ -1,15 +1,12 @@
 //! Frame control and payload: sent and read, with good and bad cards, lengths, rooms and items.
 
-use reference::card::{self, CARD_BYTES};
-use reference::cases::{altered_and_lost, modes, Mode, Random, Reception};
+use reference::card::CARD_BYTES;
+use reference::cases::{altered_and_lost, modes, Mode, Random, Reception, AMPLE};
 use reference::interface::Entry;
 use reference::Report;
 
 use crate::cards::{all_lengths, any_card, any_room, card_with};
 use crate::checker::Checker;
-
-/// Room for any answer.
-const AMPLE: usize = 9_900;
 
 /// Taps of the systematic calls: none, all, each alone, and some mixed.
 const TAPS: [u16; 17] = [
@@ -49,17 +46,6 @@ fn any_reception(random: &mut Random) -> Reception {
     Reception::new(mode, card, any_block(mode.bytes(), random))
 }
 
-/// The mode of a good card.
-fn mode_of(card: &[u8]) -> Option<Mode> {
-    let card = card::read(card).ok()?;
-    Some(Mode {
-        band: card.band,
-        kind: card.kind,
-        rate: card.rate,
-        modulation: card.modulation,
-    })
-}
-
 /// The lengths of input and output that a card asks for at an entry.
 fn lengths(mode: Mode, entry: Entry) -> (usize, usize) {
     if entry.sends() {
@@ -94,7 +80,7 @@ fn read(checker: &mut Checker, reception: &Reception) -> (Report, Vec<u8>) {
 
 /// A card at an entry with an input as the card asks for, or else as the entry may.
 fn card_at(checker: &mut Checker, entry: Entry, card: &[u8], room: usize) {
-    let (length, _) = match mode_of(card) {
+    let (length, _) = match Mode::of(card) {
         Some(mode) => lengths(mode, entry),
         None => lengths(any_mode(&mut checker.random), entry),
     };
@@ -375,14 +361,8 @@ fn made_by_library(checker: &mut Checker) -> Option<Reception> {
     let room = mode.items() + random.below(3);
     let (report, mut sent) = checker.entry(Entry::FcSend, &card, &block, room);
     sent.truncate(mode.items());
-    let items = sent.clone();
-    (report == Report::done(mode.items())).then_some(Reception {
-        mode,
-        card,
-        block,
-        sent,
-        items,
-    })
+    let made = report == Report::done(mode.items());
+    made.then(|| Reception::of_items(mode, card, block, sent))
 }
 
 fn described(reception: &Reception) -> String {

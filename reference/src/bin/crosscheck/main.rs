@@ -7,7 +7,6 @@
 mod bands;
 mod cards;
 mod checker;
-#[cfg(feature = "entries")]
 mod entries;
 mod lent;
 mod points;
@@ -41,11 +40,9 @@ const fn area(name: &'static str, systematic: Calls, random: Calls, weight: usiz
 }
 
 /// For an area whose calls are all random.
-#[cfg(feature = "entries")]
 fn nothing(_: &mut Checker) {}
 
-/// The calls of hplc.h.
-const BASE: [Area; 7] = [
+const AREAS: [Area; 18] = [
     area("card read", cards::read_systematic, cards::read_random, 3),
     area(
         "card write",
@@ -68,11 +65,6 @@ const BASE: [Area; 7] = [
         bands::sub_carrier_random,
         1,
     ),
-];
-
-/// The four entries.
-#[cfg(feature = "entries")]
-const ENTRIES: [Area; 11] = [
     area(
         "entries: cards",
         entries::cards_systematic,
@@ -136,13 +128,6 @@ const ENTRIES: [Area; 11] = [
     area("entries: any items", nothing, entries::any_items_random, 4),
 ];
 
-fn all_areas() -> Vec<&'static Area> {
-    let areas = BASE.iter();
-    #[cfg(feature = "entries")]
-    let areas = areas.chain(&ENTRIES);
-    areas.collect()
-}
-
 /// What the arguments ask for.
 struct Asked {
     calls: u64,
@@ -169,14 +154,13 @@ fn asked(mut arguments: impl Iterator<Item = String>) -> Option<Asked> {
 
 /// Makes the systematic calls of each area, then random ones until there are enough.
 fn run(asked: &Asked) -> Checker {
-    let areas = all_areas();
-    let names = areas.iter().map(|area| area.name).collect();
+    let names = AREAS.iter().map(|area| area.name).collect();
     let mut checker = Checker::new(asked.seed, names, asked.trace);
-    for (n, area) in areas.iter().enumerate() {
+    for (n, area) in AREAS.iter().enumerate() {
         checker.enter(n);
         (area.systematic)(&mut checker);
     }
-    let drawn: Vec<usize> = areas
+    let drawn: Vec<usize> = AREAS
         .iter()
         .enumerate()
         .flat_map(|(n, area)| vec![n; area.weight])
@@ -184,7 +168,7 @@ fn run(asked: &Asked) -> Checker {
     while checker.calls() < asked.calls {
         let n = checker.random.pick(&drawn);
         checker.enter(n);
-        (areas[n].random)(&mut checker);
+        (AREAS[n].random)(&mut checker);
     }
     checker
 }

@@ -1,6 +1,6 @@
 //! Constellation points and their slicing.
 
-use reference::cases::Random;
+use reference::cases::{all_bits, Random};
 use reference::interface::COORDINATES;
 use reference::points::{bits_per_carrier, QAM16_FACTOR, QPSK_FACTOR};
 
@@ -45,8 +45,7 @@ fn no_bit(random: &mut Random) -> u8 {
 pub fn map_systematic(checker: &mut Checker) {
     for modulation in 0..3 {
         let count = bits_of(modulation);
-        for v in 0..1u8 << count {
-            let bits: Vec<u8> = (0..count).map(|k| v >> k & 1).collect();
+        for bits in all_bits(count) {
             for room in 0..5 {
                 checker.map(modulation, &bits, room);
             }

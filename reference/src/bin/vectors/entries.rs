@@ -1,7 +1,9 @@
 //! The records of entries.bin: what they cover, and in which order. The same on every run.
 
-use reference::card;
-use reference::cases::{altered_and_lost, modes, Mode, Random, Reception};
+use reference::card::{self, pack, Fields};
+use reference::cases::{
+    all_bits, altered_and_lost, modes, Mode, Random, Reception, AMPLE, EXAMPLE,
+};
 use reference::interface::{Entry, CARD_FIELDS, COORDINATES};
 
 use crate::labelled;
@@ -12,9 +14,6 @@ const SEED: u64 = 11612;
 
 /// Taps that the modes use in turn.
 const TAPS: [u16; 7] = [1095, 2047, 682, 1365, 731, 0, 1234];
-
-/// Room for any answer.
-const AMPLE: usize = 9_900;
 
 /// All records, the labelled ones first.
 pub fn records() -> Vec<Record> {
@@ -155,8 +154,7 @@ impl Maker {
             (Entry::PayloadRead, modes()[4]),
         ] {
             let call = Call::Entry(entry);
-            let good = mode.card(731, 99).to_vec();
-            for card in spoilt_cards(&good) {
+            for card in spoilt_cards(mode.fields(731, 99)) {
                 self.add(call, &card, &[7; 5], 3);
             }
             // A card that the entry does not serve.
@@ -188,7 +186,7 @@ impl Maker {
         for room in [0, text - 1, text + 1] {
             self.add(Call::CardText, &good[0], &[], room);
         }
-        let mut bad = spoilt_cards(&good[0]);
+        let mut bad = spoilt_cards(EXAMPLE);
         bad.extend(all_modes());
         bad.extend((0..=64).map(|length| self.random.bytes(length)));
         for card in &bad {
@@ -205,9 +203,9 @@ impl Maker {
     fn points(&mut self) {
         for (modulation, count) in modulations() {
             let card = [modulation as u8];
-            for v in 0..1u8 << count {
-                let bits: Vec<u8> = (0..count).map(|k| v >> k & 1).collect();
-                self.add(Call::Map, &card, &bits, COORDINATES + usize::from(v % 2));
+            for bits in all_bits(count) {
+                let room = COORDINATES + usize::from(bits[0]);
+                self.add(Call::Map, &card, &bits, room);
             }
             for (index, illegal) in (0..count).flat_map(|k| [2, 3, 128, 255].map(|b| (k, b))) {
                 let mut bits = vec![1; count];
@@ -303,8 +301,8 @@ fn illegal(reception: &mut Reception, random: &mut Random) {
 
 /// Two good cards of each mode.
 fn good_cards(random: &mut Random) -> Vec<Vec<u8>> {
-    let serials = [0, 9, 10, u64::MAX, 9_007_199_254_740_993];
-    let mut cards = vec![vec![0x12, 0x58, 0x8E, 0x00, 0x20, 0, 0, 0, 0, 0, 1]];
+    let serials = [0, 9, 10, u64::MAX, EXAMPLE.serial];
+    let mut cards = vec![pack(&EXAMPLE).to_vec()];
     for mode in modes() {
         let (taps, serial) = (random.below(2048) as u16, random.word_of_any_size());
         cards.push(mode.card(taps, serial).to_vec());
@@ -316,20 +314,18 @@ fn good_cards(random: &mut Random) -> Vec<Vec<u8>> {
 
 /// A good card spoilt in each way that has a number: 10 and 12 bytes, versions, the spare bit,
 /// band 2 and 3, kind 5 to 7, modulation 3.
-fn spoilt_cards(good: &[u8]) -> Vec<Vec<u8>> {
-    let mut cards = vec![good[..10].to_vec(), [good, &[0]].concat(), Vec::new()];
-    let head = u32::from_be_bytes([0, good[0], good[1], good[2]]);
-    let with = |field: u32, shift: u32, mask: u32| {
-        let head = head & !(mask << shift) | field << shift;
-        let mut card = good.to_vec();
-        card[..3].copy_from_slice(&head.to_be_bytes()[1..]);
-        card
-    };
-    cards.extend((0..16).map(|version| with(version, 20, 15)));
-    cards.push(with(1, 0, 1));
-    cards.extend((2..4).map(|band| with(band, 18, 3)));
-    cards.extend((5..8).map(|kind| with(kind, 15, 7)));
-    cards.push(with(3, 12, 3));
+fn spoilt_cards(good: Fields) -> Vec<Vec<u8>> {
+    let mut spoilt: Vec<Fields> = (0..16).map(|version| Fields { version, ..good }).collect();
+    spoilt.push(Fields { spare: 1, ..good });
+    spoilt.extend((2..4).map(|band| Fields { band, ..good }));
+    spoilt.extend((5..8).map(|kind| Fields { kind, ..good }));
+    spoilt.push(Fields {
+        modulation: 3,
+        ..good
+    });
+    let card = pack(&good);
+    let mut cards = vec![card[..10].to_vec(), [&card[..], &[0]].concat(), Vec::new()];
+    cards.extend(spoilt.iter().map(|fields| pack(fields).to_vec()));
     cards
 }
 
@@ -383,13 +379,6 @@ mod tests {
         assert_eq!(seen, expected);
     }
 
-    fn is_of(card: &[u8], mode: Mode) -> bool {
-        card::read(card).is_ok_and(|card| {
-            let fields = (card.band, card.kind, card.rate, card.modulation);
-            fields == (mode.band, mode.kind, mode.rate, mode.modulation)
-        })
-    }
-
     #[test]
     fn every_mode_is_read_in_each_way() {
         let records = records();
@@ -397,7 +386,7 @@ mod tests {
             let read = Call::Entry(mode.entries().1);
             let numbers: HashSet<u8> = records
                 .iter()
-                .filter(|record| record.call == read && is_of(&record.card, mode))
+                .filter(|record| record.call == read && Mode::of(&record.card) == Some(mode))
                 .map(|record| record.number)
                 .collect();
             for number in [0, 4, 6, 7, 8] {

@@ -14,19 +14,9 @@ const TEXT_ROOM: usize = 192;
 
 /// The modes of the cases for which one of each will do.
 const FRAME_CONTROL: Mode = Mode::frame_control(0);
-const PAYLOAD: Mode = Mode {
-    band: 0,
-    kind: 1,
-    rate: 0,
-    modulation: 1,
-};
+const PAYLOAD: Mode = Mode::new(0, 1, 0, 1);
 /// The mode of check P12: 4,680 coded bits and a pad of 252.
-const PADDED: Mode = Mode {
-    band: 0,
-    kind: 4,
-    rate: 1,
-    modulation: 1,
-};
+const PADDED: Mode = Mode::new(0, 4, 1, 1);
 
 /// All labelled records.
 pub fn records() -> Vec<Record> {

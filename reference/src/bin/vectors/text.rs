@@ -2,13 +2,10 @@
 
 use std::io::{self, Write};
 
+use reference::cases::{all_bits, CODINGS, TAPS};
 use reference::points::{self, Received, QAM16_FACTOR, QPSK_FACTOR};
 use reference::scrambler::Scrambler;
 use reference::{interleaver, turbo};
-
-/// Kind and rate of every coding.
-const CODINGS: [(u8, u8); 6] = [(0, 0), (1, 0), (2, 0), (3, 0), (4, 0), (4, 1)];
-const TAPS: [u16; 6] = [0, 1095, 2047, 682, 1365, 731];
 
 /// Items or bits as digits.
 fn digits(items: &[u8]) -> String {
@@ -106,8 +103,7 @@ fn mapped(modulation: u64, bits: &[u8]) -> String {
 
 pub fn print_points(out: &mut impl Write) -> io::Result<()> {
     for (modulation, count) in modulations() {
-        for v in 0..1u8 << count {
-            let bits: Vec<u8> = (0..count).map(|k| v >> k & 1).collect();
+        for bits in all_bits(count) {
             writeln!(
                 out,
                 "map {modulation} {} {}",
