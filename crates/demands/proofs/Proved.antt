@@ -11,7 +11,8 @@ use Rattle.bits.proofs.RangeLaws.{under, agree}
 use Rattle.refusal.proofs.OutcomeLaws.{kept}
 use Rattle.constellation.specs.Carriers.{throughPoints}
 use Rattle.constellation.proofs.RoundTrip.{list-back}
-use Rattle.diversity.specs.Bands.{carriers, carrierCount, itemCount}
+use Rattle.bands.specs.Bands.{bandCount, carriers}
+use Rattle.diversity.specs.Lanes.{carrierCount, itemCount, fewestCopies, mostCopies}
 use Rattle.frame_control.specs.Entries.{bandOf, frameRows, wordRows, readRows, tapsOf, sentItem, send, read}
 use Rattle.frame_control.specs.Words.{made}
 use Rattle.frame_control.proofs.FrameLaws.{send-good, made-is, clean, comes-back, refused-at-limit, made-length, made-binary}
@@ -21,7 +22,6 @@ use Rattle.card.specs.Entries.{fieldRows, readFields, writeRows, writeCard}
 use Rattle.card.specs.Text.{textRows, textCard}
 use Rattle.card.proofs.RoundTrip.{write-after-read, read-after-write}
 use Rattle.constellation.specs.Entries.{mapRows, mapOutcome, sliceRows, sliceOutcome}
-use Rattle.diversity.specs.Bands.{bandCount, fewestCopies, mostCopies}
 use Rattle.diversity.proofs.BandLaws.{copies-range}
 use Rattle.payload_layout.specs.Items.{sentOn}
 use Rattle.payload_layout.proofs.ItemLaws.{sent-carries}

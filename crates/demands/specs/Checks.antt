@@ -16,9 +16,9 @@ use Rattle.scrambler.specs.Scrambler.{feedback, shifted, afterShifts, scrambler
 use Rattle.constituent.specs.Encoder.{plus, startOf}
 use Rattle.pair_interleaver.specs.Interleave.{placeBy, place}
 use Rattle.interleaver.specs.Source.{column}
-use Rattle.diversity.specs.Bands.{offsets, carriers, carrierCount, itemCount}
-use Rattle.diversity.specs.Lanes.{laneBit, rides, laneOf}
-use Rattle.diversity.specs.Votes.{copies}
+use Rattle.votes.specs.Votes.{carries, copies}
+use Rattle.bands.specs.Bands.{offsets, carriers}
+use Rattle.diversity.specs.Lanes.{laneBit, laneOf, carrierCount, itemCount}
 use Rattle.payload_layout.specs.Layouts.{symbolBits, symbolCount, padBits, layoutFor, layoutOf}
 
 -- a report of a card as numbers: 0 and its fields, or the refusal and its values
@@ -36,7 +36,7 @@ turnOf n = column n 0 ∷ column n 1 ∷ column n 2 ∷ column n 3 ∷ []
 
 -- how many lanes of a band carry a coded bit
 abbrev copiesOf : ℕ → ℕ → ℕ
-copiesOf band b = copies (itemCount band) (rides (laneOf band)) b
+copiesOf band b = copies (itemCount band) (carries (laneOf band)) b
 
 -- the example card
 abbrev exampleCard : List ℕ
@@ -79,5 +79,5 @@ Agree [] = Unit {0}
 Agree (row ∷ rows) = (row .0 ≡ row .1) × Agree rows
 
 pub checks-agree : Agree checks
-unfolding cardText cardLines modeLines decimal binary places lowest tabulate readCard cardOf definedMode field pack byteOf bitOf feedback shifted afterShifts scramblerBit startOf place offsets carriers carrierCount itemCount laneBit rides copies sum count placeBy plus layoutOf layoutFor padBits symbolCount symbolBits
+unfolding cardText cardLines modeLines decimal binary places lowest tabulate readCard cardOf definedMode field pack byteOf bitOf feedback shifted afterShifts scramblerBit startOf place offsets carriers carrierCount itemCount laneBit carries copies sum count placeBy plus layoutOf layoutFor padBits symbolCount symbolBits
 checks-agree = (refl, (refl, (refl, (refl, (refl, (refl, (refl, (refl, (refl, (refl, (refl, (refl, (refl, (refl, tt))))))))))))))

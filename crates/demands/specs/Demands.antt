@@ -20,10 +20,10 @@ use Rattle.constellation.specs.Entries.{mapOutcome, sliceOutcome}
 use Rattle.scrambler.specs.Scrambler.{scrambled}
 use Rattle.interleaver.specs.Source.{codedBits}
 use Rattle.fec.specs.Coding.{codedBit}
-use Rattle.diversity.specs.Bands.{bandCount, carrierCount, itemCount, fewestCopies}
-use Rattle.diversity.specs.Lanes.{rides, laneOf}
-use Rattle.diversity.specs.Damage.{Damage, altered, lost}
-use Rattle.diversity.specs.Votes.{copies, wrongCopies, lostCopies}
+use Rattle.votes.specs.Votes.{carries as carriedBy, copies, wrongCopies, lostCopies}
+use Rattle.votes.specs.Damage.{Damage, altered, lost}
+use Rattle.bands.specs.Bands.{bandCount}
+use Rattle.diversity.specs.Lanes.{laneOf, carrierCount, itemCount, fewestCopies}
 use Rattle.payload_layout.specs.Layouts.{items as itemsOf}
 use Rattle.payload_layout.specs.Items.{carries}
 use Rattle.payload.specs.Entries.{layoutOfCard, send as payloadSend, read as payloadRead}
@@ -96,7 +96,7 @@ CardReadAgain = (c : Card) → c .serial < 2 ^ 64 → (out : List ℕ) → write
 abbrev pub Lanes : Type 0
 Lanes =
     (band : ℕ) → band < bandCount → (b : ℕ) → b < 256
-    → (12 ≤ copies (itemCount band) (rides (laneOf band)) b) × (copies (itemCount band) (rides (laneOf band)) b ≤ 13)
+    → (12 ≤ copies (itemCount band) (carriedBy (laneOf band)) b) × (copies (itemCount band) (carriedBy (laneOf band)) b ≤ 13)
 
 -- twice the altered plus the lost carriers of a reception, held against what was made
 abbrev pub damageWeight : List ℕ → List ℕ → List ℕ → ℕ

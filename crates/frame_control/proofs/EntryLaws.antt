@@ -14,7 +14,7 @@ use Rattle.interleaver.specs.Source.{codedBits}
 use Rattle.card.proofs.ModeLaws.{defined-half}
 use Rattle.interleaver.proofs.InterleaverLaws.{coded-half}
 use Rattle.fec.specs.Coding.{codedBit}
-use Rattle.diversity.specs.Lanes.{laneOf}
+use Rattle.diversity.specs.Lanes.{laneOf, itemCount}
 use Rattle.diversity.proofs.LaneLaws.{lane-below}
 use Rattle.refusal.specs.declared.Refusal.{Refusal}
 use Rattle.refusal.specs.declared.Refusal.the-variants.{Mode}
@@ -28,7 +28,7 @@ use Rattle.card.proofs.FieldLaws.{card-read}
 use borrow.Author.Tests.{eq-eqb, ne-eqb}
 use Rattle.fec.specs.Recovery.{dataBit, recoverRows, recovered}
 use Rattle.fec.proofs.RecoveryLaws.{recovered-ext}
-use Rattle.diversity.specs.Bands.{bandCount, offsets, carriers, itemCount}
+use Rattle.bands.specs.Bands.{bandCount, offsets, carriers}
 use Rattle.frame_control.specs.Entries.{bandOf, tapsOf, frameRows, wordRows, sentItem, sendBy, send, decidedBit, itemRows, readRows, readBy, read}
 use Rattle.frame_control.proofs.FrameLaws.{good-band}
 

@@ -24,11 +24,12 @@ use Rattle.fec.specs.Coding.{codedBit}
 use Rattle.fec.specs.Recovery.{firstUndecided, recoverRows, recovered, dataBit}
 use Rattle.fec.proofs.CodingLaws.{coded-binary}
 use Rattle.fec.proofs.RecoveryLaws.{clean-return, undecided-le, refused-majority}
-use Rattle.diversity.specs.Bands.{bandCount, carriers, carrierCount, itemCount, fewestCopies}
-use Rattle.diversity.specs.Lanes.{rides, laneOf}
-use Rattle.diversity.specs.Damage.{Damage, altered, lost}
+use Rattle.votes.specs.Votes.{carries}
+use Rattle.votes.specs.Damage.{Damage, altered, lost}
+use Rattle.votes.proofs.VoteLaws.{undamaged}
+use Rattle.bands.specs.Bands.{bandCount}
+use Rattle.diversity.specs.Lanes.{laneOf, carrierCount, itemCount, fewestCopies}
 use Rattle.diversity.proofs.BandLaws.{copies-range, band-survives, band-undecides}
-use Rattle.diversity.proofs.VoteLaws.{undamaged}
 use Rattle.bits.proofs.RangeLaws.{at-each}
 use Rattle.frame_control.specs.Entries.{bandOf, tapsOf, frameRows, wordRows, sentItem, send, decidedBit, itemRows, read}
 use Rattle.frame_control.specs.Words.{GoodCard, Word, made}
@@ -89,9 +90,9 @@ read-good card items out good damage room =
 
 -- ---- what comes back
 
-rides-at : (lane : ℕ → ℕ) (n b : ℕ) → T (rides lane n b) → lane n ≡ b
-unfolding rides
-rides-at lane n b t = eqb→eq (lane n) b t
+carries-at : (lane : ℕ → ℕ) (n b : ℕ) → T (carries lane n b) → lane n ≡ b
+unfolding carries
+carries-at lane n b t = eqb→eq (lane n) b t
 
 some-copies : (band : ℕ) → band < bandCount → 0 < fewestCopies band
 some-copies band h = ltb→lt 0 (fewestCopies band) (at-each bandCount (λ k. ltb 0 (fewestCopies k)) tt band h)
@@ -163,8 +164,8 @@ module _ (card word : List ℕ) (good : GoodCard card) (is : Word word) where
 
       as-sent : (b : ℕ) → b < 256 → decidedBit (bandOf card) sent b ≡ coded b
       as-sent b h =
-          undamaged (itemCount (bandOf card)) (rides (laneOf (bandOf card))) sent b (coded b) (binary b)
-          (λ n l t. at-item n l ∙ ap coded (rides-at (laneOf (bandOf card)) n b t)) (omega (arith, copies-range (bandOf card) (good-band card good) b h .0, some-copies (bandOf card) (good-band card good)))
+          undamaged (itemCount (bandOf card)) (carries (laneOf (bandOf card))) sent b (coded b) (binary b)
+          (λ n l t. at-item n l ∙ ap coded (carries-at (laneOf (bandOf card)) n b t)) (omega (arith, copies-range (bandOf card) (good-band card good) b h .0, some-copies (bandOf card) (good-band card good)))
 
   -- what was made is so many bits
   pub made-length : (out : List ℕ) → itemCount (bandOf card) ≤ length out → length (made card word out) ≡ itemCount (bandOf card)

@@ -13,9 +13,8 @@ use Rattle.card.specs.Card.{cardOf}
 use Rattle.card.specs.Entries.{cardRows}
 use Rattle.fec.specs.Coding.{codedBit}
 use Rattle.fec.specs.Recovery.{dataBit, recoverRows}
-use Rattle.diversity.specs.Bands.{itemCount}
-use Rattle.diversity.specs.Lanes.{rides, laneOf}
-use Rattle.diversity.specs.Votes.{decided}
+use Rattle.votes.specs.Votes.{carries, decided}
+use Rattle.diversity.specs.Lanes.{laneOf, itemCount}
 
 -- the band and the taps of the card in some bytes
 abbrev pub bandOf : List ℕ → ℕ
@@ -50,7 +49,7 @@ send card word out =
 
 -- each coded bit by strict majority of its copies: 2 where there is none
 abbrev pub decidedBit : ℕ → List ℕ → ℕ → ℕ
-decidedBit band items = decided (itemCount band) (rides (laneOf band)) items
+decidedBit band items = decided (itemCount band) (carries (laneOf band)) items
 
 -- the rows behind those of the card: about the items, and about what they decide
 abbrev pub itemRows : ℕ → List ℕ → List ℕ → List Row

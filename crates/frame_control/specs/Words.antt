@@ -1,4 +1,4 @@
--- The words of demand 3 (paper 01) that speak of a frame control's entries. Altered, lost and damage are those of crate diversity.
+-- The words of demand 3 (paper 01) that speak of a frame control's entries. Altered, lost and damage are those of crate votes.
 -- Assumes nothing.
 use mathlib.Core.List.{List}
 use mathlib.Core.Path.{_≡_}
@@ -7,7 +7,7 @@ use lib.ListN.{length, getD, take}
 use Rattle.refusal.specs.Report.{done}
 use Rattle.refusal.specs.Outcome.{reported}
 use Rattle.card.specs.Card.{cardOf}
-use Rattle.diversity.specs.Bands.{itemCount}
+use Rattle.diversity.specs.Lanes.{itemCount}
 use Rattle.frame_control.specs.Entries.{bandOf, frameRows, send}
 
 -- a good card (paper 01's term): no cause about cards refuses it at the frame-control entries

@@ -13,7 +13,7 @@ ghost use Rattle.refusal.specs.Report.{answer};
 ghost use Rattle.refusal.specs.Outcome.{reported};
 ghost use Rattle.card.specs.Card.{cardOf};
 ghost use Rattle.card.specs.Entries.{cardRead};
-ghost use Rattle.diversity.specs.Bands.{bandCount};
+ghost use Rattle.bands.specs.Bands.{bandCount};
 ghost use Rattle.frame_control.specs.Entries.{frameRows, sendBy, send as sendOutcome, readBy, read as readOutcome};
 
 // The card in some bytes, where it is one of frame control.

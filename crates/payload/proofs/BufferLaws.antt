@@ -19,7 +19,7 @@ use Rattle.fec.specs.Coding.{dataBits, codedBit}
 use Rattle.fec.specs.Recovery.{dataBit, recovered}
 use Rattle.fec.proofs.CodingLaws.{coded-ext}
 use Rattle.fec.proofs.RecoveryLaws.{recovered-ext}
-use Rattle.diversity.specs.Votes.{decided}
+use Rattle.votes.specs.Votes.{decided}
 use Rattle.payload_layout.specs.declared.Layout.{Layout}
 use Rattle.payload_layout.specs.Layouts.{items, Laid}
 use Rattle.payload_layout.specs.Items.{carried, carries, sentOn}

@@ -26,8 +26,8 @@ use Rattle.fec.specs.Recovery.{dataBit, firstUndecided, disagreeing, recoverRow
 use Rattle.bits.proofs.ListLaws.{take-written}
 use Rattle.fec.proofs.CodingLaws.{coded-binary}
 use Rattle.fec.proofs.RecoveryLaws.{clean-data, clean-rows, refused-parity}
-use Rattle.diversity.specs.Votes.{copies, wrongCopies, lostCopies}
-use Rattle.diversity.specs.Damage.{Damage}
+use Rattle.votes.specs.Votes.{copies, wrongCopies, lostCopies}
+use Rattle.votes.specs.Damage.{Damage}
 use Rattle.payload_layout.specs.Layouts.{items, Laid}
 use Rattle.payload_layout.specs.Items.{carries, carried, sentOn}
 use Rattle.payload_layout.proofs.ItemLaws.{clean as decided-clean, survives as decided-survives}

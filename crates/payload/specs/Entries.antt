@@ -18,7 +18,7 @@ use Rattle.scrambler.specs.Scrambler.{scrambled}
 use Rattle.interleaver.specs.Source.{codedBits}
 use Rattle.fec.specs.Coding.{codedBit}
 use Rattle.fec.specs.Recovery.{dataBit, recoverRows}
-use Rattle.diversity.specs.Votes.{decided}
+use Rattle.votes.specs.Votes.{decided}
 use Rattle.payload_layout.specs.declared.Layout.{Layout}
 use Rattle.payload_layout.specs.Layouts.{layoutOf, items}
 use Rattle.payload_layout.specs.Items.{carries, sentOn}

@@ -1,6 +1,6 @@
 -- The modes that the payload entries serve. Assumes nothing.
 use Prim.Native.Nat.{ℕ, _<_}
-use Rattle.diversity.specs.Bands.{bandCount}
+use Rattle.bands.specs.Bands.{bandCount}
 use Rattle.card.specs.Modes.{Defined}
 
 -- a band, a kind that is not frame control with a rate of its own, and a modulation

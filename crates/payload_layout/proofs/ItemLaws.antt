@@ -14,8 +14,8 @@ use Rattle.bits.specs.Sums.{count}
 use Rattle.bits.proofs.ListLaws.{getD-tabulate, tabulate-of, written-again}
 use Rattle.bits.proofs.RangeLaws.{agree}
 use Rattle.bits.proofs.SumLaws.{count-zero, count-ext, count-and-none, count-one}
-use Rattle.diversity.specs.Votes.{votes, copies, wrongCopies, lostCopies, majority, decided}
-use Rattle.diversity.proofs.VoteLaws.{votes-append, decided-as-sent, undamaged}
+use Rattle.votes.specs.Votes.{votes, copies, wrongCopies, lostCopies, majority, decided}
+use Rattle.votes.proofs.VoteLaws.{votes-append, decided-as-sent, undamaged}
 use Rattle.payload_layout.specs.declared.Layout.{Layout}
 use Rattle.payload_layout.specs.Layouts.{items, Laid}
 use Rattle.payload_layout.specs.Items.{carried, carries, sentOn, vote, ofOne, ofTwo}

@@ -7,7 +7,7 @@ use lib.Dec.{leb, leb→le}
 use Rattle.bits.specs.Ranges.{allBelow}
 use Rattle.bits.proofs.RangeLaws.{at-each, under₂}
 use Rattle.card.specs.Modes.{carrierBits}
-use Rattle.diversity.specs.Bands.{bandCount, carriers}
+use Rattle.bands.specs.Bands.{bandCount, carriers}
 use Rattle.bits.proofs.NumberLaws.{row-within}
 use Rattle.payload_layout.specs.Layouts.{symbolBits, symbolCount, padBits, layoutFor, layoutOf, items, Laid}
 

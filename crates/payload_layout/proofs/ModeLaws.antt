@@ -10,7 +10,7 @@ use lib.ListN.{getD}
 use borrow.Author.Tests.{le-ltb}
 use Rattle.bits.specs.Ranges.{allBelow}
 use Rattle.bits.proofs.RangeLaws.{at-each}
-use Rattle.diversity.specs.Bands.{bandCount, carriers}
+use Rattle.bands.specs.Bands.{bandCount, carriers}
 use Rattle.payload_layout.specs.Layouts.{symbolBits, symbolCount, padBits, layoutFor, layoutOf, items, mostCoded, mostItems, Laid}
 use Rattle.payload_layout.proofs.LayoutLaws.{layout-laid}
 

@@ -3,7 +3,7 @@
 use mathlib.Core.Bool.{Bool, cond}
 use Prim.Native.Nat.{ℕ, _+_, _-_}
 use lib.Dec.{eqb, ltb}
-use Rattle.diversity.specs.Votes.{majority}
+use Rattle.votes.specs.Votes.{majority}
 use Rattle.payload_layout.specs.declared.Layout.{Layout}
 
 -- the coded bit of item x: the coded bits in order, and from the pad on those from 0 on

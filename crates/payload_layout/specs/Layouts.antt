@@ -2,7 +2,7 @@
 use mathlib.Core.Path.{_≡_}
 use Prim.Native.Nat.{ℕ, _+_, _-_, _*_, _/_, _<_, _≤_}
 use Rattle.card.specs.Modes.{carrierBits}
-use Rattle.diversity.specs.Bands.{carriers}
+use Rattle.bands.specs.Bands.{carriers}
 use Rattle.payload_layout.specs.declared.Layout.{Layout}
 
 -- the bits of a symbol that has so many carriers, with so many bits a carrier

@@ -5,8 +5,8 @@ ghost use mathlib.Core.Path.{_≡_};
 ghost use Prim.Native.Nat.{_<_, _≤_};
 ghost use lib.ListN.{length, getD};
 ghost use Rattle.bits.specs.Lists.{written};
-ghost use Rattle.diversity.specs.Bands.{bandCount};
-ghost use Rattle.diversity.specs.Votes.{decided};
+ghost use Rattle.bands.specs.Bands.{bandCount};
+ghost use Rattle.votes.specs.Votes.{decided};
 ghost use Rattle.payload_layout.specs.Layouts.{layoutOf, items as itemsOf, mostCoded, Laid};
 ghost use Rattle.payload_layout.specs.Items.{carries, sentOn, vote, ofOne, ofTwo};
 
@@ -26,7 +26,7 @@ pub fn layout_of(band: usize, modulation: usize, coded: usize) -> Layout
     requires { ⌜ (band < bandCount) × (modulation < 3) × (coded < 65536) ⌝ }
     ensures { λ r. ⌜ r ≡ layoutOf band modulation coded ⌝ }
 {
-    let carriers = diversity::carriers(band);
+    let carriers = bands::carriers(band);
     let bits = card::carrier_bits(modulation);
     let run = carriers * bits;
     let symbols = (coded + run - 1) / run;

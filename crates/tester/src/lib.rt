@@ -2,16 +2,16 @@
 //
 // A call returns the number of paper 01's table and always stores what comes with it behind `value`: the answer's second half, and no
 // lent buffer. Each promise goes through the same outcome definition as the entry below it.
+use bands::Place;
+use bands::PlaceOf;
+use bands::SubCarrier;
+use bands::SubCarrierOf;
 use card::Card;
-use diversity::Place;
-use diversity::PlaceOf;
-use diversity::SubCarrier;
-use diversity::SubCarrierOf;
 use refusal::Answer;
 ghost use mathlib.Core.Path.{_≡_};
 ghost use Rattle.refusal.specs.Report.{answer};
 ghost use Rattle.constellation.specs.Entries.{mapOutcome, sliceOutcome, receivedOf};
-ghost use Rattle.diversity.specs.Units.{placeReport, subCarrierReport, placeOf, subCarrierOf};
+ghost use Rattle.bands.specs.Units.{placeReport, subCarrierReport, placeOf, subCarrierOf};
 ghost use Rattle.card.specs.Entries.{readFields, writeCard};
 ghost use Rattle.card.specs.Text.{textCard};
 ghost use Rattle.frame_control.specs.Entries.{send as frameSend, read as frameRead};
@@ -135,7 +135,7 @@ pub extern "C" fn hplc_place_of_sub_carrier(
 ) -> u32
     ensures { λ n. ⌜ Reported (placeOf band «sub_carrier») n (now (value .exit)) ⌝ }
 {
-    let place = diversity::place_of(band as usize, SubCarrier(sub_carrier as usize));
+    let place = bands::place_of(band as usize, SubCarrier(sub_carrier as usize));
     refusal::report(place_answer(place), value)
 }
 
@@ -144,7 +144,7 @@ pub extern "C" fn hplc_place_of_sub_carrier(
 pub extern "C" fn hplc_sub_carrier_of_place(band: u64, place: u64, value: &mut [u64; 2]) -> u32
     ensures { λ n. ⌜ Reported (subCarrierOf band place) n (now (value .exit)) ⌝ }
 {
-    let sub_carrier = diversity::sub_carrier_of(band as usize, Place(place as usize));
+    let sub_carrier = bands::sub_carrier_of(band as usize, Place(place as usize));
     refusal::report(sub_carrier_answer(sub_carrier), value)
 }
 

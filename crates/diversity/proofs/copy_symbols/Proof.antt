@@ -8,38 +8,41 @@ use Rattle.bits.proofs.NumberLaws.{row-next, row-within}
 use Rattle.bits.proofs.ListLaws.{length-tabulate, written-none, written-all, written-part}
 use Rattle.diversity.specs.Lanes.{laneBit}
 use Rattle.diversity.proofs.LaneLaws.{rows-all}
-use Rattle.diversity.proofs.RingLaws.{ring-run}
+use Rattle.diversity.proofs.CycleLaws.{cycle-item}
 use borrow.Author.Needs.{needs}
 use Rattle.diversity.proofs.copy_symbols.Statement.{statement}
 use Rattle.diversity.proofs.copy_symbols.Tie as tie
 
 abbrev Inv-loop : tie.InvT-loop
-Inv-loop carriers offsets coded out₀ ring run n₀ s₀ out n s =
-    (s ≤ length offsets) × (run ≡ 2 * carriers) × (n ≡ 2 * (s * carriers)) × (length out ≡ length out₀)
+Inv-loop carriers offsets coded out₀ cycle n₀ s₀ out n s =
+    (s ≤ length offsets) × (n ≡ 2 * (s * carriers)) × (length out ≡ length out₀)
     × (out ≡ written n (λ n. getD coded (laneBit carriers offsets n) 0) out₀)
 
 abbrev μ-loop : tie.MeasureT-loop
-μ-loop carriers offsets coded out₀ ring run n₀ s₀ out n s = length offsets - s
+μ-loop carriers offsets coded out₀ cycle n₀ s₀ out n s = length offsets - s
 
--- a symbol's items are within the output, and its run within the ring
+-- a symbol's items are within the output
 fits : (c : tie.In-loop Inv-loop μ-loop)
-    → let args = c .before .before .before .before .before .before .args in
+    → let args = c .before .before .before .before .before .before .before .before .before .args in
     c .before .loop .n + 2 * args .carriers ≤ length (c .before .loop .out)
 fits c =
-    let args = c .before .before .before .before .before .before .args in
+    let args = c .before .before .before .before .before .before .before .before .before .args in
     omega (arith, row-within (c .before .loop .s) (args .carriers) (length (args .offsets .now)) (c .loop-test .taken))
 
-ring-long : (c : tie.In-loop Inv-loop μ-loop) → length (c .before .before .ring-of .result) ≡ 1536
-ring-long c = rw (c .before .before .ring-of .ensures) (length-tabulate 1536 _)
+cycle-long : (c : tie.In-loop Inv-loop μ-loop) → length (c .before .before .before .fill-cycle .last .1 .0) ≡ 512
+cycle-long c = rw (c .before .before .before .fill-cycle .ensures) (length-tabulate 512 _)
 
-ring-of-requires : tie.Need-ring-of-requires Inv-loop μ-loop
-ring-of-requires c κs = search needs
+no-cycle-requires : tie.Need-no-cycle-requires Inv-loop μ-loop
+no-cycle-requires c κs = search needs
 
-mul-run : tie.Need-mul-run Inv-loop μ-loop
-mul-run c = search needs
+slice-aggregate-fill-cycle : tie.Need-slice-aggregate-fill-cycle Inv-loop μ-loop
+slice-aggregate-fill-cycle c = search needs
+
+fill-cycle-requires : tie.Need-fill-cycle-requires Inv-loop μ-loop
+fill-cycle-requires c κs = search needs
 
 loop-holds : tie.Need-loop-holds Inv-loop μ-loop
-loop-holds c = (search needs, refl, omega arith, refl, written-none _ _)
+loop-holds c = (search needs, omega arith, refl, written-none _ _)
 
 shared-slice-read-copy-symbol : tie.Need-shared-slice-read-copy-symbol Inv-loop μ-loop
 shared-slice-read-copy-symbol c = search needs
@@ -58,10 +61,11 @@ part-copy-symbol-end c = search needs
 
 copy-symbol-requires : tie.Need-copy-symbol-requires Inv-loop μ-loop
 copy-symbol-requires c κs =
-    let read = c .before .before in
-    let turn = read .before in
-    let offset = read .shared-slice-known3 .given (turn .before .loop .s) in
-    (simp (length-take, length-drop) (omega (arith, fits turn)), omega (arith, ring-long turn, offset))
+    let step = c .before .before .before in
+    (omega (arith, cycle-long step), simp (length-take, length-drop) (omega (arith, fits step)))
+
+mul-n : tie.Need-mul-n Inv-loop μ-loop
+mul-n c = search needs
 
 add-n : tie.Need-add-n Inv-loop μ-loop
 add-n c = omega (arith, fits (c .before .before .before .before .before .before))
@@ -75,18 +79,15 @@ loop-less c = search needs
 loop-again : tie.Need-loop-again Inv-loop μ-loop
 loop-again c =
     let copied = c .before .before in
-    let read = copied .before .before .before in
-    let turn = read .before in
-    let at = turn .before .loop in
-    let args = turn .before .before .before .before .before .before .args in
-    let offset = read .shared-slice-known3 .given (at .s) in (
+    let step = copied .before .before .before .before in
+    let at = step .before .loop in
+    let args = step .before .before .before .before .before .before .before .before .before .args in (
       search needs,
-      refl,
       omega (arith, row-next (at .s) (args .carriers)),
       omega arith,
-      written-part _ _ _ _ _ _ _ (at .inv .4)
-          (λ j l. ring-run (args .carriers) (args .offsets .now) (args .coded .now) _ (at .s) (at .n) j
-          (turn .before .before .ring-of .ensures) (at .inv .2) l (omega (arith, offset)))
+      written-part _ _ _ _ _ _ _ (at .inv .3)
+          (λ j l. cycle-item (args .carriers) (args .offsets .now) (args .coded .now) _ (at .s) (at .n) j
+          (step .before .before .before .fill-cycle .ensures) (at .inv .1) l)
           (copied .copy-symbol .ensures),
     )
 
@@ -94,7 +95,7 @@ same-length : tie.Need-same-length Inv-loop μ-loop
 same-length c = search needs
 
 returns : tie.Need-returns Inv-loop μ-loop
-returns c = written-all _ _ _ _ _ (c .before .loop .inv .4) (rows-all _ _ _ _ (c .before .loop .inv .2) (omega arith))
+returns c = written-all _ _ _ _ _ (c .before .loop .inv .3) (rows-all _ _ _ _ (c .before .loop .inv .1) (omega arith))
 
 pub copy-symbols-spec : {M : Type 1} → statement M
 copy-symbols-spec =
@@ -102,8 +103,9 @@ copy-symbols-spec =
     (tie.spec
     Inv-loop
     μ-loop
-    ring-of-requires
-    mul-run
+    no-cycle-requires
+    slice-aggregate-fill-cycle
+    fill-cycle-requires
     loop-holds
     shared-slice-read-copy-symbol
     slice-aggregate-copy-symbol
@@ -111,6 +113,7 @@ copy-symbols-spec =
     part-copy-symbol-start
     part-copy-symbol-end
     copy-symbol-requires
+    mul-n
     add-n
     add-s
     loop-less

@@ -1,53 +1,94 @@
--- `diversity::count_symbol` meets its contract: a run of votes on the ring. Assumes nothing.
+-- `diversity::count_symbol` meets its contract. The invariant: the items of the places passed are counted. Assumes nothing.
+use mathlib.Core.Path.{_≡_}
+use Prim.Native.Nat.{_+_, _-_, _*_, _%_, _≤_}
 use native.Mathlib.Omega.{arith}
-use Rattle.diversity.proofs.RingCounterLaws.{part-room, symbol-counted}
+use lib.ListN.{length}
+use Rattle.diversity.specs.Loops.Counters.{Adds}
+use Rattle.diversity.proofs.CycleLaws.{run-place}
+use Rattle.diversity.proofs.CounterLaws.{adds-none, adds-more, adds-all}
 use borrow.Author.Needs.{needs}
 use Rattle.diversity.proofs.count_symbol.Statement.{statement}
 use Rattle.diversity.proofs.count_symbol.Tie as tie
 
-lane-i-requires : tie.Need-lane-i-requires
+abbrev Inv-loop : tie.InvT-loop
+Inv-loop carriers offset n items counters₀ c₀ counters c =
+    (c ≤ carriers) × (length counters ≡ 512) × (Adds n (2 * c) (λ j. (2 * offset + j) % 512) items counters₀ counters)
+
+abbrev μ-loop : tie.MeasureT-loop
+μ-loop carriers offset n items counters₀ c₀ counters c = carriers - c
+
+loop-holds : tie.Need-loop-holds Inv-loop μ-loop
+loop-holds c = (search needs, search needs, adds-none _ _ _ _)
+
+lane-i-requires : tie.Need-lane-i-requires Inv-loop μ-loop
 lane-i-requires c κs = search needs
 
-cast-at : tie.Need-cast-at
-cast-at c = search needs
+cast-bit : tie.Need-cast-bit Inv-loop μ-loop
+cast-bit c = search needs
 
-mul-at : tie.Need-mul-at
-mul-at c = search needs
+run-length-requires : tie.Need-run-length-requires Inv-loop μ-loop
+run-length-requires c κs = search needs
 
-sub-count-run : tie.Need-sub-count-run
-sub-count-run c = search needs
+mul-count-run : tie.Need-mul-count-run Inv-loop μ-loop
+mul-count-run c = search needs
 
-part-count-run-start : tie.Need-part-count-run-start
-part-count-run-start c = search needs
+add-count-run : tie.Need-add-count-run Inv-loop μ-loop
+add-count-run c = search needs
 
-part-count-run-end : tie.Need-part-count-run-end
-part-count-run-end c = search needs
+mul-count-run-2 : tie.Need-mul-count-run-2 Inv-loop μ-loop
+mul-count-run-2 c = search needs
 
-count-run-requires : tie.Need-count-run-requires
-count-run-requires c κs =
-    let start = c .before .before .before .before in
-    (search needs, part-room 1 _ (start .args .counters .now) (omega arith) (start .pre .2))
+mul-count-run-3 : tie.Need-mul-count-run-3 Inv-loop μ-loop
+mul-count-run-3 c = search needs
 
-same-length : tie.Need-same-length
+count-run-requires : tie.Need-count-run-requires Inv-loop μ-loop
+count-run-requires c κs = search needs
+
+add-c : tie.Need-add-c Inv-loop μ-loop
+add-c c = search needs
+
+loop-less : tie.Need-loop-less Inv-loop μ-loop
+loop-less c = search needs
+
+loop-again : tie.Need-loop-again Inv-loop μ-loop
+loop-again c =
+    let counted = c .before .before in
+    let run = counted .before .before in
+    let at = run .before .before .before .loop in
+    let args = run .before .before .before .before .before .before .args in
+    let bit = run .before .lane-i .result in
+    let m = run .run-length .result in (
+      search needs,
+      omega arith,
+      adds-all _ _ _ _ _ _ _
+          (adds-more _ _ _ _ (2 * at .c) (2 * m) (λ j. 2 * bit + j) _ _ (at .inv .2) (counted .count-run .ensures)
+          (λ j l. run-place (args .offset) (at .c) bit j m (run .before .lane-i .ensures) (run .run-length .ensures .2) l))
+          (omega arith),
+    )
+
+same-length : tie.Need-same-length Inv-loop μ-loop
 same-length c = search needs
 
-returns : tie.Need-returns
-returns c =
-    let run = c .before .before in
-    let start = run .before .before .before .before .before in
-    symbol-counted (start .args .offset) _ (start .args .items .now) (start .args .counters .now) _
-    (start .pre .0) (omega arith) (start .pre .1) (run .count-run .ensures)
+returns : tie.Need-returns Inv-loop μ-loop
+returns c = adds-all _ _ _ _ _ _ _ (c .before .loop .inv .2) (omega arith)
 
 pub count-symbol-spec : {M : Type 1} → statement M
 count-symbol-spec =
     tie.close
     (tie.spec
+    Inv-loop
+    μ-loop
+    loop-holds
     lane-i-requires
-    cast-at
-    mul-at
-    sub-count-run
-    part-count-run-start
-    part-count-run-end
+    cast-bit
+    run-length-requires
+    mul-count-run
+    add-count-run
+    mul-count-run-2
+    mul-count-run-3
     count-run-requires
+    add-c
+    loop-less
+    loop-again
     same-length
     returns)

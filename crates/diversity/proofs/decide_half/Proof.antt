@@ -5,9 +5,9 @@ use native.Mathlib.Omega.{arith}
 use lib.ListN.{length, length-set}
 use Rattle.bits.specs.Lists.{written}
 use Rattle.bits.proofs.ListLaws.{written-none, written-next, written-all}
-use Rattle.diversity.specs.Votes.{majority}
-use Rattle.diversity.specs.RingCounters.{pairSum}
-use Rattle.diversity.proofs.RingCounterLaws.{pair-sum}
+use Rattle.votes.specs.Votes.{majority}
+use Rattle.diversity.specs.Loops.Counters.{pairSum}
+use Rattle.diversity.proofs.CounterLaws.{pair-sum}
 use borrow.Author.Needs.{needs}
 use Rattle.diversity.proofs.decide_half.Statement.{statement}
 use Rattle.diversity.proofs.decide_half.Tie as tie
@@ -15,7 +15,7 @@ use Rattle.diversity.proofs.decide_half.Tie as tie
 abbrev Inv-loop : tie.InvT-loop
 Inv-loop first both bits₀ i q b₀ bits b =
     (b ≤ 128) × (i ≡ (first + 0) % 256) × (q ≡ (first + 0 + 128) % 256)
-    × (bits ≡ written b (λ b. majority 96 (pairSum both (first + b))) bits₀) × (length bits ≡ length bits₀)
+    × (bits ≡ written b (λ b. majority 256 (pairSum both (first + b))) bits₀) × (length bits ≡ length bits₀)
 
 abbrev μ-loop : tie.MeasureT-loop
 μ-loop first both bits₀ i q b₀ bits b = 128 - b
@@ -67,16 +67,16 @@ loop-less c = search needs
 
 loop-again : tie.Need-loop-again Inv-loop μ-loop
 loop-again c =
-    let turn = c .before .before .before in
-    let at = turn .before .loop in
-    let start = turn .before .before .before .before .before in
+    let step = c .before .before .before in
+    let at = step .before .loop in
+    let start = step .before .before .before .before .before in
     let sum =
-    pair-sum (start .args .both .now) (start .args .first) (at .b) _ _ (start .pre .0) (start .pre .1) (turn .loop-test .taken)
+    pair-sum (start .args .both .now) (start .args .first) (at .b) _ _ (start .pre .0) (start .pre .1) (step .loop-test .taken)
     (at .inv .1) (at .inv .2) in (
       search needs,
       search needs,
       search needs,
-      written-next _ _ _ _ _ (at .inv .3) (omega arith) (c .decide-bit .ensures ∙ ap (majority 96) sum),
+      written-next _ _ _ _ _ (at .inv .3) (omega arith) (c .decide-bit .ensures ∙ ap (majority 256) sum),
       simp length-set (at .inv .4),
     )
 

@@ -5,7 +5,7 @@ use native.Mathlib.Omega.{arith}
 use lib.Dec.{eqb}
 use borrow.Author.Tests.{lt-ltb, le-ltb}
 use Rattle.bits.proofs.SumLaws.{one-le}
-use Rattle.diversity.specs.Votes.{majority}
+use Rattle.votes.specs.Votes.{majority}
 use Rattle.payload_layout.specs.Items.{ofTwo}
 use borrow.Author.Needs.{needs}
 use Rattle.payload_layout.proofs.of_two.Statement.{statement}

@@ -1,0 +1,3 @@
+-- What the proofs of `bands` share, and its theorems. Assumes nothing.
+pub mod BandLaws
+pub mod UnitLaws

@@ -1,0 +1,3 @@
+-- What the contracts and the theorems of `bands` cite. Assumes nothing.
+pub mod Bands
+pub mod Units

@@ -1,0 +1,3 @@
+-- What the proofs of `votes` share, and its theorems. Assumes nothing.
+pub mod VoteLaws
+pub mod DamageLaws

@@ -1,0 +1,3 @@
+-- What the contracts and the theorems of `votes` cite. Assumes nothing.
+pub mod Votes
+pub mod Damage
