@@ -1,19 +1,19 @@
 -- Laws of the bits of numbers and bytes: packing and taking apart undo each other, and exclusive-or undoes itself. Assumes nothing.
-use mathlib.Core.Path.{_≡_, refl, sym, ap, _∙_}
+use mathlib.Core.Path.{_≡_, refl, sym, ap, ap₂, _∙_}
 use mathlib.Core.List.{List}
 use Prim.Native.Nat.{ℕ, zero, suc, _+_, _-_, _*_, _/_, _%_, _^_, _≤_, _<_}
-use native.Mathlib.Nat.{add-zero, add-suc, add-assoc, mul-assoc, eq-or-lt-of-le, le-of-suc-le-suc, not-suc-le-zero, div-add-mod', pow-suc}
+use native.Mathlib.Nat.{add-zero, add-suc, add-assoc, mul-assoc, eq-or-lt-of-le, le-of-suc-le-suc, not-suc-le-zero, pow-suc}
 use mathlib.Core.Logic.{_⊎_, inl, inr}
 use native.Mathlib.Numerals.{add-one, one-add}
 use native.Mathlib.Omega.{arith}
 use lib.Arith.{bin-ind, digits-div, digits-mod}
-use lib.Bits.{bitXor, differ, xor-step, xor-self, xor-block}
+use lib.Bits.{bitXor, differ, xor-step, xor-self, xor-zero-l, xor-zero-r, xor-shr, xor-mod, xor-block}
 use lib.ListN.{length, getD}
 use lib.Pow.{shr-shr, mod-pow-add}
-use Rattle.bits.specs.Lists.{tabulate, written}
-use Rattle.bits.specs.Bits.{bitAt, bitOf, nibble, pack, byteOf, field, bytesOf}
+use Rattle.bits.specs.Lists.{written}
+use Rattle.bits.specs.Bits.{bitAt, bitOf, pack, byteOf, field, bytesOf}
 use Rattle.bits.proofs.ListLaws.{length-tabulate, getD-tabulate, getD-written, tabulate-of, tabulate-ext, written-ext}
-use Rattle.bits.proofs.RangeLaws.{agree₂, under₂}
+use Rattle.bits.proofs.RangeLaws.{agree₂, agree₃, under₂}
 
 -- each of the bits d is 0 or 1
 abbrev pub Binary : ℕ → (ℕ → ℕ) → Type 0
@@ -81,38 +81,34 @@ pack-bits (suc n) x =
 pub pack-shifted : (n s x : ℕ) → pack n (λ j. bitAt (s + (n - 1 - j)) x) ≡ x / 2 ^ s % 2 ^ n
 pack-shifted n s x = pack-ext n _ (λ j. bitAt (n - 1 - j) (x / 2 ^ s)) (λ j h. ap (λ (y : ℕ). y % 2) (sym (shr-shr x s (n - 1 - j)))) ∙ pack-bits n (x / 2 ^ s)
 
--- ---- the bits of a byte by the words of its two halves
-
-module _ (words : List ℕ) (b j : ℕ) (held : words ≡ tabulate 16 nibble) (b-lt : b < 256) (j-lt : j < 4) where
-  word-at : (n : ℕ) → n < 16 → getD words n 0 / 2 ^ (8 * j) % 256 ≡ nibble n / 2 ^ (8 * j) % 256
-  word-at n h = ap (λ (w : ℕ). w / 2 ^ (8 * j) % 256) (ap (λ (l : List ℕ). getD l n 0) held ∙ getD-tabulate 16 nibble n 0 h)
-
-  pub word-high : getD words (b / 16) 0 / 2 ^ (8 * j) % 256 ≡ bitAt (7 - j) b
-  unfolding nibble
-  word-high =
-      word-at (b / 16) (omega arith)
-      ∙ agree₂ 256 4 (λ b j. nibble (b / 16) / 2 ^ (8 * j) % 256) (λ b j. bitAt (7 - j) b) tt b j b-lt j-lt
-
-  pub word-low : getD words (b % 16) 0 / 2 ^ (8 * j) % 256 ≡ bitAt (7 - (4 + j)) b
-  unfolding nibble
-  word-low =
-      word-at (b % 16) (omega arith)
-      ∙ agree₂ 256 4 (λ b j. nibble (b % 16) / 2 ^ (8 * j) % 256) (λ b j. bitAt (7 - (4 + j)) b) tt b j b-lt j-lt
-
 -- ---- exclusive-or
 
 differ-lt : (x y : ℕ) → x < 2 → y < 2 → differ x y < 2
 differ-lt = under₂ 2 2 2 differ tt
 
-differ-cancel : (x y : ℕ) → x < 2 → y < 2 → differ (differ x y) y ≡ x
-differ-cancel = agree₂ 2 2 (λ x y. differ (differ x y) y) (λ x y. x) tt
+differ-assoc : (x y z : ℕ) → x < 2 → y < 2 → z < 2 → differ (differ x y) z ≡ differ x (differ y z)
+differ-assoc = agree₃ 2 2 2 (λ x y z. differ (differ x y) z) (λ x y z. differ x (differ y z)) tt
+
+-- a number by its half and its lowest bit
+split-xor : (x l c : ℕ) → l < 2 → bitXor (x * 2 + l) c ≡ bitXor x (c / 2) * 2 + differ l (c % 2)
+split-xor x l c h = xor-step (x * 2 + l) c ∙ ap₂ (λ (m n : ℕ). bitXor m (c / 2) * 2 + differ n (c % 2)) (digits-div x h) (digits-mod x h)
+
+pub xor-assoc : (a b c : ℕ) → bitXor (bitXor a b) c ≡ bitXor a (bitXor b c)
+xor-assoc =
+    bin-ind (λ (n : ℕ). (b c : ℕ) → bitXor (bitXor n b) c ≡ bitXor n (bitXor b c)) (λ b c. rw (xor-zero-l b, xor-zero-l (bitXor b c))) (λ n ih b c.
+    ap (λ (m : ℕ). bitXor m c) (xor-step n b)
+    ∙ split-xor (bitXor (n / 2) (b / 2)) (differ (n % 2) (b % 2)) c (differ-lt (n % 2) (b % 2) (omega arith) (omega arith))
+    ∙ ap₂ (λ (x y : ℕ). x * 2 + y) (ih (b / 2) (c / 2)) (differ-assoc (n % 2) (b % 2) (c % 2) (omega arith) (omega arith) (omega arith))
+    ∙ sym
+    (xor-step n (bitXor b c)
+    ∙ ap₂ (λ (x y : ℕ). bitXor (n / 2) x * 2 + differ (n % 2) y) (xor-shr b c 1)
+    (xor-mod b c 1 ∙ one-bit (b % 2) (c % 2) (omega arith) (omega arith))))
+  where
+    one-bit : (x y : ℕ) → x < 2 → y < 2 → bitXor x y ≡ differ x y
+    one-bit = agree₂ 2 2 bitXor differ tt
 
 pub xor-cancel : (a b : ℕ) → bitXor (bitXor a b) b ≡ a
-xor-cancel =
-    bin-ind (λ (n : ℕ). (b : ℕ) → bitXor (bitXor n b) b ≡ n) xor-self (λ n ih b.
-    let low : differ (n % 2) (b % 2) < 2 = differ-lt (n % 2) (b % 2) (omega arith) (omega arith) in
-    rw (xor-step n b, xor-step (_ * 2 + _) b, digits-div _ low, digits-mod _ low, ih (b / 2), differ-cancel (n % 2) (b % 2) (omega arith) (omega arith))
-    (div-add-mod' n 2))
+xor-cancel a b = xor-assoc a b b ∙ ap (bitXor a) (xor-self b) ∙ xor-zero-r a
 
 -- packing carries it from bits to numbers
 pub pack-xor : (n : ℕ) (d e : ℕ → ℕ) → Binary n d → Binary n e → pack n (λ j. bitXor (d j) (e j)) ≡ bitXor (pack n d) (pack n e)
@@ -155,10 +151,6 @@ length-bytes n d = length-tabulate n (byteOf d)
 pub bit-binary : (bytes : List ℕ) (i : ℕ) → bitOf bytes i < 2
 unfolding bitOf
 bit-binary bytes i = omega arith
-
-pub byte-lt : (d : ℕ → ℕ) (k : ℕ) → Binary 8 (λ j. d (8 * k + j)) → byteOf d k < 256
-unfolding byteOf
-byte-lt d k h = pack-lt 8 (λ j. d (8 * k + j)) h
 
 -- the bits of packed bytes are the bits that were packed
 pub bits-bytes : (n : ℕ) (d : ℕ → ℕ) → Binary (8 * n) d → (i : ℕ) → i < 8 * n → bitOf (bytesOf n d) i ≡ d i

@@ -4,6 +4,8 @@ pub mod NumberLaws
 pub mod ListLaws
 pub mod BitLaws
 pub mod SumLaws
-pub mod DifferLaws
+pub mod WordLaws
+pub mod StoreLaws
+mod DifferLaws
 pub mod PermutationLaws
 pub mod RangeLaws

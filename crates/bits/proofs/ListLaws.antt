@@ -12,7 +12,8 @@ use lib.ListN.{length, getD, take, drop, set, length-append, length-drop, List·
 use lib.Seq.{ext-getD, drop-cons, set-at, getD-at, take-at, drop-at, drop-drop, getD-append-add, getD-drop}
 use borrow.Author.Tests.{lt-ltb, le-ltb, ltb-false}
 use borrow.Rule.Slice.PartAt.{part-to-end}
-use Rattle.bits.specs.Lists.{tabulate, written, larger, largest, lowest, firstAbove}
+use Rattle.bits.specs.Lists.{tabulate, written, lowest, firstAbove}
+use Rattle.bits.specs.Loops.Largest.{larger, largest}
 use Rattle.bits.proofs.NumberLaws.{lt-cases}
 
 module _ {A : Type 0} where
@@ -84,6 +85,10 @@ module _ {A : Type 0} where
   written-of n f d out now h l low high =
       ext-getD d now (written n f out) (l ∙ sym (length-written n f out h)) (λ i b.
       lt-cases i n (λ c. low i c ∙ sym (getD-written n f out i d c)) (λ c. high i c ∙ sym (getD-kept n f out i d c)))
+
+  -- a list that has f's elements below n already
+  pub written-same : (n : ℕ) (f : ℕ → A) (d : A) (out : List A) → n ≤ length out → ((i : ℕ) → i < n → getD out i d ≡ f i) → out ≡ written n f out
+  written-same n f d out h low = written-of n f d out out h refl low (λ i l. refl)
 
   -- what was written below m is written over
   pub written-over : (n m : ℕ) (f g : ℕ → A) (out : List A) → n ≤ m → written m f (written n g out) ≡ written m f out

@@ -1,6 +1,6 @@
 -- Laws of numbers: below a bound or not, rows of equal length, and remainders. Assumes nothing.
 use mathlib.Core.Path.{_≡_, sym, ap, _∙_}
-use Prim.Native.Nat.{ℕ, _+_, _-_, _*_, _/_, _%_, _≤_, _<_}
+use Prim.Native.Nat.{ℕ, zero, suc, _+_, _-_, _*_, _/_, _%_, _≤_, _<_}
 use native.Mathlib.Nat.{add-mul, mul-le-mul-right, mul-right-comm, mod-lt, mod-eq-of-lt, mod-add-mod, mod-eq-sub-mod, div-add-mod', add-mul-mod-self-right}
 use native.Mathlib.Omega.{arith}
 use lib.Dec.{ltb}
@@ -10,6 +10,14 @@ use Rattle.bits.proofs.BoolLaws.{test-cases}
 -- below n, or not
 pub lt-cases {ℓ} : {P : Type ℓ} (x n : ℕ) → (x < n → P) → (n ≤ x → P) → P
 lt-cases x n low high = test-cases (ltb x n) (λ e. low (ltb-true x n e)) (λ e. high (ltb-false x n e))
+
+-- what holds at 0, 1, 2 and 3 holds below 4
+pub below-four : (P : ℕ → Type 0) → P 0 → P 1 → P 2 → P 3 → (k : ℕ) → k < 4 → P k
+below-four P a b c d zero h = a
+below-four P a b c d (suc zero) h = b
+below-four P a b c d (suc (suc zero)) h = c
+below-four P a b c d (suc (suc (suc zero))) h = d
+below-four P a b c d (suc (suc (suc (suc k)))) h = absurd (omega arith)
 
 -- ---- rows of n
 

@@ -22,16 +22,16 @@ moved n b a (no h) = a
 
 module _ (n : ℕ) (f : ℕ → ℕ) (P : Permutes (suc n) f) where
   -- f below n, with what goes to n sent where n goes
-  turned : ℕ → ℕ
-  turned x = moved n (f n) (f x) (ℕ-discrete (f x) n)
+  closed : ℕ → ℕ
+  closed x = moved n (f n) (f x) (ℕ-discrete (f x) n)
 
   -- below n nothing goes where n goes
   alone : (x : ℕ) → x < n → f x ≡ f n → ⊥
   alone x h e = let q : x ≡ n = P .apart x n (omega arith) (lt-suc-self n) e in omega arith
 
-  turned-permutes : Permutes n turned
-  unfolding turned moved
-  turned-permutes =
+  closed-permutes : Permutes n closed
+  unfolding closed moved
+  closed-permutes =
       record {
         below = λ x h. small x h (ℕ-discrete (f x) n);
         apart = λ x y hx hy e. same x y hx hy (ℕ-discrete (f x) n) (ℕ-discrete (f y) n) e;
@@ -47,20 +47,20 @@ module _ (n : ℕ) (f : ℕ → ℕ) (P : Permutes (suc n) f) where
       same x y hx hy (no p) (yes q) r = absurd (alone x hx r)
       same x y hx hy (no p) (no q) r = P .apart x y (omega arith) (omega arith) r
 
-  met : ((y : ℕ) → y < n → Meets n turned y) → (y : ℕ) → y < suc n → Meets (suc n) f y
-  unfolding turned moved
+  met : ((y : ℕ) → y < n → Meets n closed y) → (y : ℕ) → y < suc n → Meets (suc n) f y
+  unfolding closed moved
   met rest y h = go (ℕ-discrete y (f n)) (ℕ-discrete y n)
     where
-      -- where the turned function meets the place of n, f meets n
-      back : Meets n turned (f n) → Meets (suc n) f n
+      -- where the closed function meets the place of n, f meets n
+      back : Meets n closed (f n) → Meets (suc n) f n
       back (x, hx, e) = at (ℕ-discrete (f x) n) e
         where
           at : (d : Dec (f x ≡ n)) → moved n (f n) (f x) d ≡ f n → Meets (suc n) f n
           at (yes p) r = (x, omega arith, p)
           at (no p) r = absurd (alone x hx r)
 
-      -- and elsewhere what the turned function meets
-      same : (y ≡ f n → ⊥) → Meets n turned y → Meets (suc n) f y
+      -- and elsewhere what the closed function meets
+      same : (y ≡ f n → ⊥) → Meets n closed y → Meets (suc n) f y
       same k (x, hx, e) = at (ℕ-discrete (f x) n) e
         where
           at : (d : Dec (f x ≡ n)) → moved n (f n) (f x) d ≡ y → Meets (suc n) f y
@@ -78,7 +78,7 @@ module _ (n : ℕ) (f : ℕ → ℕ) (P : Permutes (suc n) f) where
 -- a permutation meets each number below n
 pub onto : (n : ℕ) (f : ℕ → ℕ) → Permutes n f → (y : ℕ) → y < n → Meets n f y
 onto zero f P y h = absurd (not-suc-le-zero h)
-onto (suc n) f P y h = met n f P (onto n (turned n f P) (turned-permutes n f P)) y h
+onto (suc n) f P y h = met n f P (onto n (closed n f P) (closed-permutes n f P)) y h
 
 pub once : (n : ℕ) (f : ℕ → ℕ) → Permutes n f → Once n f
 once n f P x h = let (p, l, e) = onto n f P x h in (p, l, e, λ o m d. P .apart o p m l (d ∙ sym e))

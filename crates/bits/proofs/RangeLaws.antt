@@ -15,13 +15,16 @@ at-each (suc n) f t k h =
     ⊎-elim (λ e. subst (λ (m : ℕ). T (f m)) (sym e) (and-left (f n) (allBelow n f) t)) (λ l. at-each n f (and-right (f n) (allBelow n f) t) k l)
     (eq-or-lt-of-le (le-of-suc-le-suc h))
 
+pub at-each₂ : (m n : ℕ) (t : ℕ → ℕ → Bool) → T (allBelow m (λ j. allBelow n (t j))) → (j k : ℕ) → j < m → k < n → T (t j k)
+at-each₂ m n t h j k hj hk = at-each n (t j) (at-each m (λ j. allBelow n (t j)) h j hj) k hk
+
 -- two functions that agree below a bound, of one, two, three and four numbers
 pub agree : (n : ℕ) (f g : ℕ → ℕ) → T (allBelow n (λ k. eqb (f k) (g k))) → (k : ℕ) → k < n → f k ≡ g k
 agree n f g t k h = eqb→eq (f k) (g k) (at-each n (λ k. eqb (f k) (g k)) t k h)
 
 pub agree₂ : (m n : ℕ) (f g : ℕ → ℕ → ℕ) → T (allBelow m (λ j. allBelow n (λ k. eqb (f j k) (g j k))))
     → (j k : ℕ) → j < m → k < n → f j k ≡ g j k
-agree₂ m n f g t j k hj hk = agree n (f j) (g j) (at-each m (λ j. allBelow n (λ k. eqb (f j k) (g j k))) t j hj) k hk
+agree₂ m n f g t j k hj hk = eqb→eq (f j k) (g j k) (at-each₂ m n (λ j k. eqb (f j k) (g j k)) t j k hj hk)
 
 pub agree₃ : (l m n : ℕ) (f g : ℕ → ℕ → ℕ → ℕ) → T (allBelow l (λ i. allBelow m (λ j. allBelow n (λ k. eqb (f i j k) (g i j k)))))
     → (i j k : ℕ) → i < l → j < m → k < n → f i j k ≡ g i j k
@@ -40,7 +43,7 @@ pub under : (n b : ℕ) (f : ℕ → ℕ) → T (allBelow n (λ k. ltb (f k) b))
 under n b f t k h = ltb→lt (f k) b (at-each n (λ k. ltb (f k) b) t k h)
 
 pub under₂ : (m n b : ℕ) (f : ℕ → ℕ → ℕ) → T (allBelow m (λ j. allBelow n (λ k. ltb (f j k) b))) → (j k : ℕ) → j < m → k < n → f j k < b
-under₂ m n b f t j k hj hk = under n b (f j) (at-each m (λ j. allBelow n (λ k. ltb (f j k) b)) t j hj) k hk
+under₂ m n b f t j k hj hk = ltb→lt (f j k) b (at-each₂ m n (λ j k. ltb (f j k) b) t j k hj hk)
 
 -- two tests that agree below a bound
 pub agree-tests : (n : ℕ) (f g : ℕ → Bool) → T (allBelow n (λ k. Bool·beq (f k) (g k))) → (k : ℕ) → k < n → f k ≡ g k

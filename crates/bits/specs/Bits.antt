@@ -13,10 +13,6 @@ bitAt k n = n / 2 ^ k % 2
 unfoldable pub bitOf : List ℕ → ℕ → ℕ
 bitOf bytes i = bitAt (7 - i % 8) (getD bytes (i / 8) 0)
 
--- the four bits of a number below 16, most significant first, one a byte: the first is the lowest byte
-unfoldable pub nibble : ℕ → ℕ
-nibble n = bitAt 3 n + bitAt 2 n * 2 ^ 8 + bitAt 1 n * 2 ^ 16 + bitAt 0 n * 2 ^ 24
-
 -- the number that the bits d 0, d 1, .., of which there are n, spell, most significant first
 unfoldable pub pack : ℕ → (ℕ → ℕ) → ℕ
 pack zero d = 0

@@ -4,3 +4,4 @@ pub mod Bits
 pub mod Sums
 pub mod Permutations
 pub mod Ranges
+pub mod Loops

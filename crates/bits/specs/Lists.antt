@@ -1,4 +1,4 @@
--- Lists given by an index function, buffers of which the first part is written, largest elements, and searches from the front.
+-- Lists given by an index function, buffers of which the first part is written, and searches from the front.
 -- Assumes nothing.
 use mathlib.Core.Bool.{Bool, cond}
 use mathlib.Core.List.{List, [], _∷_, _++_}
@@ -14,15 +14,6 @@ tabulate (suc n) f = tabulate n f ++ (f n ∷ [])
 -- the list whose first n elements are written by f, and the rest kept
 unfoldable pub written : {A : Type 0} → ℕ → (ℕ → A) → List A → List A
 written n f out = tabulate n f ++ drop n out
-
--- the larger of two numbers
-abbrev pub larger : ℕ → ℕ → ℕ
-larger a b = cond (ltb a b) b a
-
--- the largest of f 0, f 1, .., of which there are n, or 0 where there is none
-unfoldable pub largest : ℕ → (ℕ → ℕ) → ℕ
-largest zero f = 0
-largest (suc n) f = larger (largest n f) (f n)
 
 -- the lowest number below n at which the test holds, or n where there is none
 unfoldable pub lowest : ℕ → (ℕ → Bool) → ℕ

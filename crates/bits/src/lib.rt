@@ -1,16 +1,18 @@
-// Bits of bytes, most significant first, and the small loops over slices that every crate above uses.
+// Bits of bytes, most significant first, four bytes of a list as one word, and the small loops over slices that every crate above uses.
 //
 // Internal: nothing here is a public entry. A function with a `requires` is called only where its caller has shown it.
 ghost use mathlib.Core.Path.{_≡_};
 ghost use mathlib.Core.Bool.{not};
 ghost use mathlib.Core.List.{_++_};
-ghost use Prim.Native.Nat.{ℕ, _+_, _-_, _*_, _/_, _%_, _^_, _<_, _≤_};
+ghost use Prim.Native.Nat.{ℕ, _+_, _-_, _*_, _%_, _<_, _≤_};
 ghost use lib.Bits.{bitXor};
 ghost use lib.Dec.{eqb};
 ghost use lib.ListN.{length, getD, drop};
-ghost use Rattle.bits.specs.Lists.{tabulate, written, larger as largerOf, largest, firstAbove};
-ghost use Rattle.bits.specs.Bits.{bitAt, bitOf, nibble, byteOf};
+ghost use Rattle.bits.specs.Lists.{tabulate, written, firstAbove};
+ghost use Rattle.bits.specs.Bits.{bitAt, bitOf, byteOf};
 ghost use Rattle.bits.specs.Sums.{count};
+ghost use Rattle.bits.specs.Loops.Words.{nibble, wordByte, stored};
+ghost use Rattle.bits.specs.Loops.Largest.{larger as largerOf, largest};
 
 // The larger of two numbers.
 fn larger(a: u8, b: u8) -> u8
@@ -46,8 +48,8 @@ fn search_above(s: &[u8], limit: u8) -> usize
     i
 }
 
-// The lowest index of an element above `limit`, or the slice's length. The largest element is found in vectors, a search is not, so
-// the search runs only where there is something to find.
+// The lowest index of an element above `limit`, or the slice's length. The largest element is found much faster, so the search runs
+// only where there is something to find.
 pub fn first_above(s: &[u8], limit: u8) -> usize
     ensures { λ r. ⌜ r ≡ firstAbove limit (now (s .entry)) ⌝ }
 {
@@ -82,13 +84,57 @@ pub fn add_bytes(bytes: &[u8], out: &mut [u8])
     }
 }
 
-// Bit i of some bytes, most significant first.
-pub fn bit_of(bytes: &[u8], i: usize) -> u8
-    requires { ⌜ i < 8 * length (now bytes) ⌝ }
-    ensures { λ r. ⌜ r ≡ bitOf (now (bytes .entry)) i ⌝ }
+// A byte as a word.
+fn wide(b: u8) -> u32
+    ensures { λ r. ⌜ (r ≡ b) × (r < 256) ⌝ }
 {
-    let b = bytes[i / 8];
-    (b >> (7 - i % 8)) % 2
+    b as u32
+}
+
+// A word's lowest byte.
+fn low(word: u32) -> u8
+    ensures { λ r. ⌜ r ≡ word % 256 ⌝ }
+{
+    (word % 256) as u8
+}
+
+// Four bytes, from a place on and evenly apart, as a word.
+pub fn gather(from: &[u8], at: usize, apart: usize) -> u32
+    requires { ⌜ at + 3 * apart < length (now from) ⌝ }
+    ensures { λ r. ⌜ ((c : ℕ) → c < 4 → wordByte r c ≡ getD (now (from .entry)) (c * apart + at) 0) ⌝ }
+{
+    let a = wide(from[at]);
+    let b = wide(from[apart + at]);
+    let c = wide(from[2 * apart + at]);
+    let d = wide(from[3 * apart + at]);
+    a + b * 256 + c * 65536 + d * 16777216
+}
+
+// A word's four bytes, stored from a place on and evenly apart.
+pub fn scatter(word: u32, at: usize, apart: usize, to: &mut [u8])
+    requires { ⌜ at + 3 * apart < length (now to) ⌝ }
+    ensures { λ _. ⌜ now (to .exit) ≡ stored 4 (λ c. c * apart + at) (wordByte word) (now (to .entry)) ⌝ }
+{
+    to[at] = low(word);
+    to[apart + at] = low(word / 256);
+    to[2 * apart + at] = low(word / 65536);
+    to[3 * apart + at] = low(word / 16777216);
+}
+
+// A word whose bytes are rotated up so many places.
+pub fn rotated(word: u32, by: u32) -> u32
+    requires { ⌜ by < 4 ⌝ }
+    ensures { λ r. ⌜ ((b : ℕ) → b < 4 → wordByte r b ≡ wordByte word ((b + (4 - by)) % 4)) ⌝ }
+{
+    (word << (by * 8)) | (word >> ((32 - by * 8) % 32))
+}
+
+// A word whose bytes are rotated back down so many places.
+pub fn rotated_back(word: u32, by: u32) -> u32
+    requires { ⌜ by < 4 ⌝ }
+    ensures { λ r. ⌜ ((b : ℕ) → b < 4 → wordByte r b ≡ wordByte word ((b + by) % 4)) ⌝ }
+{
+    (word >> (by * 8)) | (word << ((32 - by * 8) % 32))
 }
 
 // By number below 16: its four bits, the first in the lowest byte.
@@ -118,24 +164,13 @@ fn nibbles() -> [u32; 16]
     NIBBLES
 }
 
-// The four bytes of a word, the lowest first, at the start of `out`. They become one store.
-fn put_word(word: u32, out: &mut [u8])
-    requires { ⌜ 4 ≤ length (now out) ⌝ }
-    ensures { λ _. ⌜ now (out .exit) ≡ written 4 (λ j. word / 2 ^ (8 * j) % 256) (now (out .entry)) ⌝ }
-{
-    out[0] = (word % 256) as u8;
-    out[1] = (word / 256 % 256) as u8;
-    out[2] = (word / 65536 % 256) as u8;
-    out[3] = (word / 16777216 % 256) as u8;
-}
-
 // The bits of a byte, one an element, at the start of `out`.
 fn put_bits(words: &[u32; 16], byte: u8, out: &mut [u8])
     requires { ⌜ (now words ≡ tabulate 16 nibble) × (8 ≤ length (now out)) ⌝ }
     ensures { λ _. ⌜ now (out .exit) ≡ written 8 (λ j. bitAt (7 - j) byte) (now (out .entry)) ⌝ }
 {
-    put_word(words[(byte / 16) as usize], out);
-    put_word(words[(byte % 16) as usize], &mut out[4..]);
+    scatter(words[(byte / 16) as usize], 0, 1, out);
+    scatter(words[(byte % 16) as usize], 4, 1, out);
 }
 
 // The bits of some bytes, one an element, at the start of `out`.
@@ -193,8 +228,7 @@ fn differing(x: u8, y: u8) -> u16
     u8::count_ones(x ^ y) as u16
 }
 
-// How many bits of two lists of as many bytes differ. Eight times 8,191 fits in a u16, and the narrower the count, the more bytes
-// the compiler takes at a time.
+// How many bits of two lists of as many bytes differ. Eight times 8,191 fits in a u16, and a narrow count is faster.
 pub fn disagreements(a: &[u8], b: &[u8]) -> usize
     requires { ⌜ (length (now a) ≡ length (now b)) × (length (now a) < 8192) ⌝ }
     ensures { λ r. ⌜ r ≡ count (8 * length (now (a .entry))) (λ i. not (eqb (bitOf (now (a .entry)) i) (bitOf (now (b .entry)) i))) ⌝ }

@@ -14,9 +14,10 @@ use Rattle.bits.specs.Permutations.{Permutes}
 use Rattle.bits.proofs.ListLaws.{written-ext}
 use Rattle.bits.proofs.BitLaws.{pack-next, pack-ext, pack-lt}
 use Rattle.bits.proofs.PermutationLaws.{undone, after-inverse}
-use Rattle.words.specs.Words.{wordByte, stored}
-use Rattle.words.proofs.StoreLaws.{stored-append, stored-ext, stored-permuted}
-use Rattle.words.proofs.WordLaws.{below-four, joined, joined-byte, whole}
+use Rattle.bits.specs.Loops.Words.{wordByte, stored}
+use Rattle.bits.proofs.StoreLaws.{stored-append, stored-ext, stored-permuted}
+use Rattle.bits.proofs.NumberLaws.{below-four}
+use Rattle.bits.proofs.WordLaws.{joined, joined-byte, whole}
 use Rattle.columns.specs.Columns.{unrowed}
 use Rattle.columns.proofs.RowLaws.{place, place-lt}
 

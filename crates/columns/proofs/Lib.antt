@@ -1,3 +1,3 @@
 -- Laws of columns and rows. Assumes nothing.
-pub mod RowLaws
-pub mod ColumnLaws
+mod RowLaws
+mod ColumnLaws

@@ -1,8 +1,8 @@
 -- From columns to rows: the tallest columns, the rows of a word's bytes, rows stored one after the other, and the elements of the rows. Assumes nothing.
 use mathlib.Core.Path.{_≡_, refl, sym, ap, _∙_}
 use mathlib.Core.List.{List}
-use Prim.Native.Nat.{ℕ, zero, suc, _+_, _-_, _*_, _/_, _%_, _^_, _≤_, _<_}
-use native.Mathlib.Nat.{add-zero, add-comm, mul-left-comm, mul-le-mul-right, mod-lt}
+use Prim.Native.Nat.{ℕ, _+_, _-_, _*_, _/_, _%_, _^_, _≤_, _<_}
+use native.Mathlib.Nat.{add-comm, mul-left-comm, mul-le-mul-right, mod-lt}
 use native.Mathlib.Omega.{arith}
 use lib.Bits.{bitAnd, and-shr, and-mod, and-mask}
 use lib.Dec.{lit<}
@@ -11,10 +11,10 @@ use lib.Pow.{shr-shr, field, mod-mod-pow}
 use borrow.Author.Tests.{eq-eqb, ne-eqb}
 use Rattle.bits.specs.Lists.{written}
 use Rattle.bits.specs.Bits.{bitAt, bitOf}
-use Rattle.bits.proofs.ListLaws.{written-next}
 use Rattle.bits.proofs.BitLaws.{byte-bit}
-use Rattle.words.specs.Words.{wordByte, stored}
-use Rattle.words.proofs.WordLaws.{below-four}
+use Rattle.bits.specs.Loops.Words.{wordByte, stored}
+use Rattle.bits.proofs.NumberLaws.{below-four}
+use Rattle.bits.proofs.StoreLaws.{stored-run}
 use Rattle.columns.specs.Columns.{rowed, tallest}
 
 -- ---- the tallest columns
@@ -52,18 +52,6 @@ row-byte w s h =
     (masked w s 0 h refl) (masked w s 8 h refl) (masked w s 16 h refl) (masked w s 24 h refl)
 
 -- ---- rows stored one after the other
-
--- m elements side by side, stored after the first n
-stored-run : (m n : ℕ) (v f : ℕ → ℕ) (out now : List ℕ) → now ≡ written n f out → n + m ≤ length out → ((c : ℕ) → c < m → v c ≡ f (n + c))
-    → stored m (λ c. c * 1 + n) v now ≡ written (n + m) f out
-unfolding stored
-stored-run zero n v f out now e room same = e ∙ ap (λ (k : ℕ). written k f out) (sym (add-zero n))
-stored-run (suc m) n v f out now e room same =
-    let at : m * 1 + n ≡ n + m = omega arith in
-    let q : n + m + 1 ≡ n + suc m = omega arith in
-    let so-far : stored m (λ c. c * 1 + n) v now ≡ written (n + m) f out =
-    stored-run m n v f out now e (omega arith) (λ c h. same c (omega arith)) in
-    rw at (written-next (n + m) (v m) f out (stored m (λ c. c * 1 + n) v now) so-far (omega arith) (same m (omega arith)) ∙ ap (λ (k : ℕ). written k f out) q)
 
 -- a loop's turn: row j is stored
 pub row-next : (j w : ℕ) (f : ℕ → ℕ) (out now : List ℕ) → now ≡ written (4 * j) f out → 4 * (j + 1) ≤ length out

@@ -7,7 +7,7 @@ ghost use Prim.Native.Nat.{ℕ, _+_, _-_, _*_, _/_, _%_, _<_, _≤_};
 ghost use lib.ListN.{length, getD};
 ghost use Rattle.bits.specs.Lists.{written};
 ghost use Rattle.bits.specs.Bits.{bitAt, bitOf, pack, byteOf};
-ghost use Rattle.words.specs.Words.{wordByte};
+ghost use Rattle.bits.specs.Loops.Words.{wordByte};
 ghost use Rattle.columns.specs.Columns.{rowed, unrowed, tallest};
 
 // Row j of eight whose columns are the bytes of a word: one bit of each byte.
@@ -18,14 +18,14 @@ fn row(word: u32, j: usize) -> u32
     (word >> (7 - j)) & 0x1010101
 }
 
-// The eight rows whose columns are the bytes of a word, at the start of `out`. Each becomes one store.
+// The eight rows whose columns are the bytes of a word, at the start of `out`.
 fn put_rows(word: u32, out: &mut [u8])
     requires { ⌜ 32 ≤ length (now out) ⌝ }
     ensures { λ _. ⌜ now (out .exit) ≡ written 32 (λ k. bitAt (7 - k / 4) (wordByte word (k % 4))) (now (out .entry)) ⌝ }
 {
     let mut j: usize = 0;
     while j < 8 {
-        words::scatter(row(word, j), 4 * j, 1, out);
+        bits::scatter(row(word, j), 4 * j, 1, out);
         j += 1;
     }
 }
@@ -38,7 +38,7 @@ fn rows_by_words(height: usize, bytes: &[u8], out: &mut [u8])
     let mut i: usize = 0;
     while i < height {
         let at = 32 * i;
-        put_rows(words::gather(bytes, i, height), &mut out[at..]);
+        put_rows(bits::gather(bytes, i, height), &mut out[at..]);
         i += 1;
     }
 }
@@ -50,7 +50,7 @@ fn put_elements(height: usize, bits: &[u8], out: &mut [u8])
 {
     let mut r: usize = 0;
     while r < height {
-        words::scatter(words::gather(bits, r, height), 4 * r, 1, out);
+        bits::scatter(bits::gather(bits, r, height), 4 * r, 1, out);
         r += 1;
     }
 }
@@ -78,7 +78,7 @@ pub fn to_rows(height: usize, bytes: &[u8], out: &mut [u8])
     rows_by_bits(height, bytes, out);
 }
 
-// Twice a number, by a rotation: the compiler takes a product apart, and then reads single bytes where a word would do.
+// Twice a number, by a rotation, which is faster here than a product.
 fn doubled(x: u32) -> u32
     requires { ⌜ x < 2147483648 ⌝ }
     ensures { λ r. ⌜ r ≡ 2 * x ⌝ }
@@ -94,7 +94,7 @@ fn take_rows(rows: &[u8], at: usize) -> u32
     let mut word: u32 = 0;
     let mut j: usize = 0;
     while j < 8 {
-        word = doubled(word) + words::gather(rows, at + 4 * j, 1);
+        word = doubled(word) + bits::gather(rows, at + 4 * j, 1);
         j += 1;
     }
     word
@@ -108,7 +108,7 @@ fn columns_by_words(height: usize, rows: &[u8], out: &mut [u8])
 {
     let mut i: usize = 0;
     while i < height {
-        words::scatter(take_rows(rows, 32 * i), i, height, out);
+        bits::scatter(take_rows(rows, 32 * i), i, height, out);
         i += 1;
     }
 }
@@ -120,7 +120,7 @@ fn take_elements(height: usize, rows: &[u8], out: &mut [u8])
 {
     let mut r: usize = 0;
     while r < height {
-        words::scatter(words::gather(rows, 4 * r, 1), r, height, out);
+        bits::scatter(bits::gather(rows, 4 * r, 1), r, height, out);
         r += 1;
     }
 }

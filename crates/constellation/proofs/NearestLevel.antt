@@ -11,6 +11,7 @@ use lib.Ieee.{Float, nan, inf, fin, up, down, add, sub, mul, lt, le}
 use lib.Ieee.Fits.{up-pos, down-pos}
 use lib.Ieee.Positive.{first-pos}
 use Rattle.bits.proofs.BoolLaws.{test-cases}
+use Rattle.bits.proofs.NumberLaws.{below-four}
 use Rattle.constellation.specs.Factors.{factorOf}
 use Rattle.constellation.specs.Slicing.{level, lost, erasureWidth, lower, upper, read2, reading2, reading4}
 use Rattle.constellation.specs.Distances.{scaled, apart, distance, negative2, negative4, size4}
@@ -24,13 +25,6 @@ Nearer4 s X Y k j = (j ≡ k → ⊥) → apart s X (negative4 k) (size4 k * Y) 
 
 abbrev Nearest4 : Bool → ℕ → ℕ → ℕ → Type 0
 Nearest4 s X Y k = (j : ℕ) → j < 4 → Nearer4 s X Y k j
-
-below-four : (P : ℕ → Type 0) → P 0 → P 1 → P 2 → P 3 → (j : ℕ) → j < 4 → P j
-below-four P a b c d zero h = a
-below-four P a b c d (suc zero) h = b
-below-four P a b c d (suc (suc zero)) h = c
-below-four P a b c d (suc (suc (suc zero))) h = d
-below-four P a b c d (suc (suc (suc (suc j)))) h = absurd (omega arith)
 
 module _ (X Y : ℕ) (unit : 0 < Y) where
   inner : 0 < X → X < 2 * Y → Nearest4 false X Y 2

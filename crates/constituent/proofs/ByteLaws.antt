@@ -6,11 +6,11 @@ use native.Mathlib.Nat.{add-zero, add-suc}
 use native.Mathlib.Omega.{arith}
 use lib.Bits.{bitXor, xor-self, xor-mod, xor-shr}
 use lib.Dec.{lit<}
-use lib.ListN.{length, getD}
+use lib.ListN.{getD}
 use lib.Pow.{pow-mono, pow-add, shr-shr}
 use Rattle.bits.specs.Bits.{bitOf}
-use Rattle.bits.specs.Lists.{tabulate, written}
-use Rattle.bits.proofs.ListLaws.{getD-tabulate, written-of}
+use Rattle.bits.specs.Lists.{tabulate}
+use Rattle.bits.proofs.ListLaws.{getD-tabulate}
 use Rattle.bits.proofs.NumberLaws.{lt-cases}
 use Rattle.constituent.specs.Encoder.{next, parity, stateAt}
 use Rattle.constituent.specs.Pairs.{pairAt, pairIn, fourFrom}
@@ -21,10 +21,6 @@ use Rattle.constituent.proofs.PairLaws.{pair-in-byte}
 use Rattle.constituent.proofs.LinearLaws.{word-parts, word-doubled, few-parities}
 
 -- ---- the tables
-
--- what already stands need not be written
-pub written-same : (n : ℕ) (f : ℕ → ℕ) (out : List ℕ) → n ≤ length out → ((k : ℕ) → k < n → getD out k 0 ≡ f k) → out ≡ written n f out
-written-same n f out h low = written-of n f 0 out out h refl low (λ k l. refl)
 
 -- a byte of no ones does nothing to the state zero
 pub word-zero : (taps : ℕ) → 0 ≡ byteWord taps 0 0

@@ -3,42 +3,18 @@ use mathlib.Core.Path.{_≡_, refl, sym, ap, ap₂, _∙_}
 use Prim.Native.Nat.{ℕ, zero, suc, _+_, _-_, _*_, _/_, _%_, _^_, _≤_, _<_}
 use native.Mathlib.Nat.{mod-lt, one-mul}
 use native.Mathlib.Omega.{arith}
-use lib.Arith.{bin-ind, digits-div, digits-mod}
 use lib.Dec.{lit<}
-use lib.Bits.{bitXor, differ, xor-step, xor-zero-l, xor-zero-r, xor-comm, xor-shr, xor-mod, xor-block, xor-shifted}
+use lib.Bits.{bitXor, xor-zero-l, xor-zero-r, xor-comm, xor-shr, xor-mod, xor-block, xor-shifted}
 use lib.Pow.{pow-add, pow-mono}
 use Rattle.bits.specs.Bits.{bitAt}
-use Rattle.bits.proofs.RangeLaws.{agree₂, agree₃, under₂}
+use Rattle.bits.proofs.BitLaws.{xor-assoc}
+use Rattle.bits.proofs.RangeLaws.{agree₂, agree₃}
 use Rattle.constituent.specs.Encoder.{plus, zeroInputStep, tapB1, tapB2, tapC, tapD1, tapD2, next, dot, parity, stateAt}
 use Rattle.constituent.specs.Pairs.{pairIn}
 use Rattle.constituent.specs.Bytes.{parities, byteWord}
 use Rattle.constituent.proofs.RingLaws.{linear, state-lt}
 
 -- ---- exclusive-or
-
-differ-lt : (x y : ℕ) → x < 2 → y < 2 → differ x y < 2
-differ-lt = under₂ 2 2 2 differ tt
-
-differ-assoc : (x y z : ℕ) → x < 2 → y < 2 → z < 2 → differ (differ x y) z ≡ differ x (differ y z)
-differ-assoc = agree₃ 2 2 2 (λ x y z. differ (differ x y) z) (λ x y z. differ x (differ y z)) tt
-
--- a number by its half and its lowest bit
-split-xor : (x l c : ℕ) → l < 2 → bitXor (x * 2 + l) c ≡ bitXor x (c / 2) * 2 + differ l (c % 2)
-split-xor x l c h = xor-step (x * 2 + l) c ∙ ap₂ (λ (m n : ℕ). bitXor m (c / 2) * 2 + differ n (c % 2)) (digits-div x h) (digits-mod x h)
-
-xor-assoc : (a b c : ℕ) → bitXor (bitXor a b) c ≡ bitXor a (bitXor b c)
-xor-assoc =
-    bin-ind (λ (n : ℕ). (b c : ℕ) → bitXor (bitXor n b) c ≡ bitXor n (bitXor b c)) (λ b c. rw (xor-zero-l b, xor-zero-l (bitXor b c))) (λ n ih b c.
-    ap (λ (m : ℕ). bitXor m c) (xor-step n b)
-    ∙ split-xor (bitXor (n / 2) (b / 2)) (differ (n % 2) (b % 2)) c (differ-lt (n % 2) (b % 2) (omega arith) (omega arith))
-    ∙ ap₂ (λ (x y : ℕ). x * 2 + y) (ih (b / 2) (c / 2)) (differ-assoc (n % 2) (b % 2) (c % 2) (omega arith) (omega arith) (omega arith))
-    ∙ sym
-    (xor-step n (bitXor b c)
-    ∙ ap₂ (λ (x y : ℕ). bitXor (n / 2) x * 2 + differ (n % 2) y) (xor-shr b c 1)
-    (xor-mod b c 1 ∙ one-bit (b % 2) (c % 2) (omega arith) (omega arith))))
-  where
-    one-bit : (x y : ℕ) → x < 2 → y < 2 → bitXor x y ≡ differ x y
-    one-bit = agree₂ 2 2 bitXor differ tt
 
 -- sums of two sums
 cross : (a b c d : ℕ) → bitXor (bitXor a b) (bitXor c d) ≡ bitXor (bitXor a c) (bitXor b d)

@@ -1,21 +1,19 @@
 -- A block's source bits in rows, and the bytes that they fill. Assumes nothing.
 use mathlib.Core.Path.{_≡_, sym, ap, ap₂, _∙_}
-use mathlib.Core.Bool.{Bool}
 use mathlib.Core.List.{List, _++_}
 use Prim.Native.Nat.{ℕ, _+_, _-_, _*_, _/_, _%_, _≤_, _<_}
 use native.Mathlib.Nat.{mod-lt, div-add-mod', div-lt-iff-lt-mul}
 use native.Mathlib.Omega.{arith}
 use lib.Arith.{digits-div, digits-mod}
-use lib.Dec.{T, leb, leb→le, ltb, ltb→lt}
+use lib.Dec.{leb, leb→le, ltb, ltb→lt}
 use lib.ListN.{length, getD, take, drop, length-take, length-drop}
 use lib.Seq.{getD-take, getD-drop}
 use borrow.Author.Tests.{lt-ltb, le-ltb}
 use Rattle.bits.specs.Bits.{bitAt, bitOf, byteOf}
 use Rattle.bits.specs.Lists.{written}
-use Rattle.bits.specs.Ranges.{allBelow}
 use Rattle.bits.proofs.BitLaws.{Binary, bytes-ext, written-bits}
 use Rattle.bits.proofs.ListLaws.{length-written, getD-written, written-ext, written-part}
-use Rattle.bits.proofs.RangeLaws.{at-each, agree₂}
+use Rattle.bits.proofs.RangeLaws.{at-each, at-each₂, agree₂}
 use Rattle.card.specs.Modes.{blockBytes, Defined}
 use Rattle.columns.specs.Columns.{rowed, unrowed, tallest}
 use Rattle.turbo.specs.Puncture.{keptCount}
@@ -48,10 +46,6 @@ column-lt k h pos l = div-lt-iff-lt-mul {x = k} {y = 4} pos .1 l
 place-back : (k h : ℕ) → k / h < 4 → (k % h * 4 + k / h) % 4 * h + (k % h * 4 + k / h) / 4 ≡ k
 place-back k h c = ap₂ (λ (i j : ℕ). i * h + j) (digits-mod (k % h) c) (digits-div (k % h) c) ∙ div-add-mod' k h
 
--- a test that is computed at every kind and rate
-both : (t : ℕ → ℕ → Bool) → T (allBelow 5 (λ k. allBelow 2 (t k))) → (kind rate : ℕ) → kind < 5 → rate < 2 → T (t kind rate)
-both t h kind rate hk hr = at-each 2 (t kind) (at-each 5 (λ k. allBelow 2 (t k)) h kind hk) rate hr
-
 module _ (kind rate high low : ℕ) (D : Defined kind rate) (eh : high ≡ dataHeight kind) (el : low ≡ parityHeight kind rate) where
   pub data-served : Served high
   data-served =
@@ -64,8 +58,8 @@ module _ (kind rate high low : ℕ) (D : Defined kind rate) (eh : high ≡ dataH
   pub parity-served : Served low
   parity-served =
       rw el (
-        ltb→lt 0 _ (both (λ k r. ltb 0 (parityHeight k r)) tt kind rate (D .kind-lt) (D .rate-lt)),
-        leb→le _ _ (both (λ k r. leb (parityHeight k r) (tallest (parityHeight k r))) tt kind rate (D .kind-lt) (D .rate-lt)),
+        ltb→lt 0 _ (at-each₂ 5 2 (λ k r. ltb 0 (parityHeight k r)) tt kind rate (D .kind-lt) (D .rate-lt)),
+        leb→le _ _ (at-each₂ 5 2 (λ k r. leb (parityHeight k r) (tallest (parityHeight k r))) tt kind rate (D .kind-lt) (D .rate-lt)),
         agree₂ 5 2 (λ k r. 2 * (parityHeight k r / 2)) parityHeight tt kind rate (D .kind-lt) (D .rate-lt),
       )
 

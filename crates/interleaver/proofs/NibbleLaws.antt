@@ -10,11 +10,11 @@ use Rattle.interleaver.specs.declared.Layout.{Layout}
 use Rattle.interleaver.specs.Layouts.{layoutOf}
 use Rattle.interleaver.specs.Source.{column, codedOf, codedBits}
 use Rattle.interleaver.specs.RowOrder.{rowOf, placeOf, rowPlace}
-use Rattle.words.specs.Words.{wordByte, stored}
+use Rattle.bits.specs.Loops.Words.{wordByte, stored}
 use Rattle.interleaver.specs.Stores.{target, origin, carried}
 use Rattle.interleaver.proofs.SourceLaws.{column-apart}
 use Rattle.interleaver.proofs.RowLaws.{place-nibble}
-use Rattle.words.proofs.StoreLaws.{stored-none, stored-append, stored-ext, stored-reordered}
+use Rattle.bits.proofs.StoreLaws.{stored-none, stored-append, stored-ext, stored-reordered}
 
 -- the buffer after nibble n, whose row starts at `first`, is moved
 abbrev Moved : ℕ → ℕ → Bool → List ℕ → List ℕ → List ℕ → Type 0

@@ -3,7 +3,7 @@ use mathlib.Core.Bool.{Bool, cond}
 use mathlib.Core.List.{List}
 use Prim.Native.Nat.{ℕ, _+_, _-_, _*_}
 use lib.ListN.{getD}
-use Rattle.words.specs.Words.{stored}
+use Rattle.bits.specs.Loops.Words.{stored}
 use Rattle.interleaver.specs.declared.Layout.{Layout}
 use Rattle.interleaver.specs.RowOrder.{placeOf}
 

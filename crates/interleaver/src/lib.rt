@@ -4,7 +4,7 @@
 // Internal: nothing here is a public entry. A function with a `requires` is called only where its caller has shown it.
 ghost use mathlib.Core.Path.{_≡_};
 ghost use mathlib.Core.Bool.{true, false, cond};
-ghost use Prim.Native.Nat.{ℕ, _+_, _-_, _*_, _/_, _%_, _<_, _≤_, min};
+ghost use Prim.Native.Nat.{ℕ, _+_, _*_, _/_, _%_, _<_, _≤_, min};
 ghost use lib.ListN.{length, getD};
 ghost use Rattle.bits.specs.Lists.{written};
 ghost use Rattle.card.specs.Modes.{blockBytes, Defined};
@@ -13,7 +13,7 @@ ghost use Rattle.interleaver.specs.Layouts.{Sound, Small, Near, Paired, 
 ghost use Rattle.interleaver.specs.Source.{isParity, dataPlace, column, codedOf, codedBits, codedAt};
 ghost use Rattle.interleaver.specs.RowOrder.{rowPlace, rowSource};
 ghost use Rattle.interleaver.specs.Walks.{OnPass, parityPlace, untilParity, Stands, Runs};
-ghost use Rattle.words.specs.Words.{stored};
+ghost use Rattle.bits.specs.Loops.Words.{stored};
 ghost use Rattle.interleaver.specs.Stores.{target, origin, carried};
 
 // The numbers of the interleaver at one kind and rate.
@@ -97,11 +97,11 @@ fn move_word(n: usize, turn: u32, first: usize, back: bool, from: &[u8], to: &mu
         (λ b. getD (now (from .entry)) (cond back (n * 4 + b) (first + column n b)) 0) (now (to .entry)) ⌝ }
 {
     if back {
-        let word = words::gather(from, n * 4, 1);
-        words::scatter(words::turned_back(word, turn), first, 1, to);
+        let word = bits::gather(from, n * 4, 1);
+        bits::scatter(bits::rotated_back(word, turn), first, 1, to);
     } else {
-        let word = words::gather(from, first, 1);
-        words::scatter(words::turned(word, turn), n * 4, 1, to);
+        let word = bits::gather(from, first, 1);
+        bits::scatter(bits::rotated(word, turn), n * 4, 1, to);
     }
 }
 

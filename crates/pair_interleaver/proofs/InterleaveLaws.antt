@@ -11,7 +11,7 @@ use lib.Seq.{ext-getD}
 use Rattle.bits.specs.Ranges.{allBelow}
 use Rattle.bits.specs.Permutations.{Permutes}
 use Rattle.bits.proofs.NumberLaws.{lt-cases, mod-near}
-use Rattle.bits.proofs.RangeLaws.{at-each, agree, under}
+use Rattle.bits.proofs.RangeLaws.{at-each₂, at-each, agree, under}
 use Rattle.card.specs.Modes.{blockBytes}
 use Rattle.constituent.specs.Pairs.{pairCount}
 use Rattle.pair_interleaver.specs.Interleave.{starts16, starts72, starts136, starts264, starts520, starts, placeBy, Interleaver, place}
@@ -73,8 +73,7 @@ differs s = allBelow (length s) (λ i. allBelow (length s) (λ j. not (eqb (getD
 differ-by : (s : List ℕ) → T (differs s) → (i j : ℕ) → i < length s → j < length s → getD s i 0 % length s ≡ getD s j 0 % length s → i ≡ j
 differ-by s t i j hi hj e =
     eqb→eq i j (implied (eqb (getD s i 0 % length s) (getD s j 0 % length s)) (eqb i j)
-    (at-each (length s) (λ j. not (eqb (getD s i 0 % length s) (getD s j 0 % length s)) || eqb i j)
-    (at-each (length s) (λ i. allBelow (length s) (λ j. not (eqb (getD s i 0 % length s) (getD s j 0 % length s)) || eqb i j)) t i hi) j hj)
+    (at-each₂ (length s) (length s) (λ i j. not (eqb (getD s i 0 % length s) (getD s j 0 % length s)) || eqb i j) t i j hi hj)
     (subst (λ (m : ℕ). T (eqb (getD s i 0 % length s) m)) e (eqb-refl (getD s i 0 % length s))))
   where
     implied : (a b : Bool) → T (not a || b) → T a → T b

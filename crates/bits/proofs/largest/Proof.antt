@@ -3,7 +3,7 @@ use mathlib.Core.Path.{_≡_, refl, sym, ap, _∙_}
 use Prim.Native.Nat.{ℕ, _-_, _≤_}
 use native.Mathlib.Omega.{arith}
 use lib.ListN.{length, getD}
-use Rattle.bits.specs.Lists.{larger, largest}
+use Rattle.bits.specs.Loops.Largest.{larger, largest}
 use Rattle.bits.proofs.ListLaws.{largest-next}
 use borrow.Author.Needs.{needs}
 use Rattle.bits.proofs.largest.Statement.{statement}

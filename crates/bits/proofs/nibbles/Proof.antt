@@ -1,6 +1,6 @@
 -- `bits::nibbles` meets its contract. Assumes nothing.
 use mathlib.Core.Path.{refl}
-use Rattle.bits.specs.Bits.{nibble}
+use Rattle.bits.specs.Loops.Words.{nibble}
 use Rattle.bits.specs.Lists.{tabulate}
 use Rattle.bits.proofs.nibbles.Statement.{statement}
 use Rattle.bits.proofs.nibbles.Tie as tie

@@ -5,7 +5,7 @@ use native.Mathlib.Omega.{arith}
 use lib.ListN.{length, getD}
 use Rattle.bits.specs.Lists.{written}
 use Rattle.bits.proofs.ListLaws.{written-none, written-all}
-use Rattle.words.proofs.StoreLaws.{length-stored}
+use Rattle.bits.proofs.StoreLaws.{length-stored}
 use Rattle.columns.specs.Columns.{rowed}
 use Rattle.columns.proofs.RowLaws.{row-next, rowed-bits}
 use borrow.Author.Needs.{needs}

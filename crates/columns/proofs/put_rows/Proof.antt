@@ -6,8 +6,8 @@ use lib.ListN.{length}
 use Rattle.bits.specs.Lists.{written}
 use Rattle.bits.specs.Bits.{bitAt}
 use Rattle.bits.proofs.ListLaws.{written-none, written-all}
-use Rattle.words.specs.Words.{wordByte}
-use Rattle.words.proofs.StoreLaws.{length-stored}
+use Rattle.bits.specs.Loops.Words.{wordByte}
+use Rattle.bits.proofs.StoreLaws.{length-stored}
 use Rattle.columns.proofs.RowLaws.{row-next, word-row}
 use borrow.Author.Needs.{needs}
 use Rattle.columns.proofs.put_rows.Statement.{statement}

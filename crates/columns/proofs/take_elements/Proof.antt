@@ -3,8 +3,8 @@ use mathlib.Core.Path.{_≡_, refl, sym, ap, _∙_}
 use Prim.Native.Nat.{ℕ, _+_, _-_, _*_, _≤_}
 use native.Mathlib.Omega.{arith}
 use lib.ListN.{length, getD}
-use Rattle.words.specs.Words.{stored}
-use Rattle.words.proofs.StoreLaws.{stored-none, length-stored}
+use Rattle.bits.specs.Loops.Words.{stored}
+use Rattle.bits.proofs.StoreLaws.{stored-none, length-stored}
 use Rattle.columns.specs.Columns.{unrowed}
 use Rattle.columns.proofs.RowLaws.{place}
 use Rattle.columns.proofs.ColumnLaws.{column-next, columns-all, unrowed-bit}

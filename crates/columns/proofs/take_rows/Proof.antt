@@ -3,7 +3,7 @@ use mathlib.Core.Path.{_≡_, ap, _∙_}
 use Prim.Native.Nat.{ℕ, _+_, _-_, _≤_, _<_}
 use native.Mathlib.Omega.{arith}
 use Rattle.bits.specs.Bits.{pack}
-use Rattle.words.specs.Words.{wordByte}
+use Rattle.bits.specs.Loops.Words.{wordByte}
 use Rattle.columns.proofs.ColumnLaws.{columnBit, no-rows, rows-lt, next-rows-lt, next-rows}
 use borrow.Author.Needs.{needs}
 use Rattle.columns.proofs.take_rows.Statement.{statement}

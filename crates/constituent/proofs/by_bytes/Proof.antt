@@ -10,10 +10,10 @@ use lib.Pow.{pow-pos, pow-mono}
 use lib.Seq.{getD-set-same}
 use borrow.Author.Needs.{needs}
 use Rattle.bits.specs.Lists.{written}
-use Rattle.bits.proofs.ListLaws.{length-written, getD-written, written-whole, written-over}
+use Rattle.bits.proofs.ListLaws.{written-same, length-written, getD-written, written-whole, written-over}
 use Rattle.bits.proofs.NumberLaws.{lt-cases}
 use Rattle.constituent.specs.Bytes.{byteWord}
-use Rattle.constituent.proofs.ByteLaws.{written-same, word-zero}
+use Rattle.constituent.proofs.ByteLaws.{word-zero}
 use Rattle.constituent.proofs.by_bytes.Statement.{statement}
 use Rattle.constituent.proofs.by_bytes.Tie as tie
 
@@ -43,7 +43,7 @@ loop-holds c =
     let n : length t ≡ 256 = simp length-set (z .pre) in
     let e : (k : ℕ) → k < 1 → getD t k 0 ≡ byteWord (z .args .taps) 0 k =
     λ k h. let q : k ≡ 0 = omega arith in rw q (getD-set-same (z .args .table .now) 0 0 0 (omega (arith, z .pre)) ∙ word-zero (z .args .taps)) in
-    (0, omega arith, refl, written-same 1 (byteWord (z .args .taps) 0) t (omega arith) e, n, n)
+    (0, omega arith, refl, written-same 1 (byteWord (z .args .taps) 0) 0 t (omega arith) e, n, n)
 
 double-requires : tie.Need-double-requires Inv-loop μ-loop
 double-requires c κs =

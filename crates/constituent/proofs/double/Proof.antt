@@ -7,9 +7,9 @@ use lib.Bits.{bitXor}
 use lib.ListN.{length, getD, length-set}
 use borrow.Author.Needs.{needs}
 use Rattle.bits.specs.Lists.{written}
-use Rattle.bits.proofs.ListLaws.{getD-written, written-next, written-all}
+use Rattle.bits.proofs.ListLaws.{written-same, getD-written, written-next, written-all}
 use Rattle.constituent.specs.Bytes.{byteWord}
-use Rattle.constituent.proofs.ByteLaws.{written-same, half-le, doubled-at}
+use Rattle.constituent.proofs.ByteLaws.{half-le, doubled-at}
 use Rattle.constituent.proofs.double.Statement.{statement}
 use Rattle.constituent.proofs.double.Tie as tie
 
@@ -36,7 +36,7 @@ byte-word-requires c κs = search needs
 loop-holds : tie.Need-loop-holds Inv-loop μ-loop
 loop-holds c =
     let z = c .before .before in
-    (search needs, written-same (z .args .half + 0) (byteWord (z .args .taps) 0) (z .args .table .now) (omega (arith, half-le (z .args .taps) (z .args .half) (z .args .table .now) (z .pre), z .pre .room)) (λ k h. z .pre .low k (omega arith)), refl)
+    (search needs, written-same (z .args .half + 0) (byteWord (z .args .taps) 0) 0 (z .args .table .now) (omega (arith, half-le (z .args .taps) (z .args .half) (z .args .table .now) (z .pre), z .pre .room)) (λ k h. z .pre .low k (omega arith)), refl)
 
 mul-table : tie.Need-mul-table Inv-loop μ-loop
 mul-table c = omega (arith, bound c)

@@ -8,7 +8,7 @@ use Rattle.bits.proofs.PermutationLaws.{inverse}
 use Rattle.interleaver.specs.Source.{codedBits, codedAt}
 use Rattle.interleaver.specs.RowOrder.{rowPlace, rowSource}
 use Rattle.interleaver.proofs.InterleaverLaws.{row-permutes, row-inverse}
-use Rattle.words.proofs.StoreLaws.{stored-permuted}
+use Rattle.bits.proofs.StoreLaws.{stored-permuted}
 use borrow.Author.Needs.{needs}
 use Rattle.interleaver.proofs.deinterleave.Statement.{statement}
 use Rattle.interleaver.proofs.deinterleave.Tie as tie

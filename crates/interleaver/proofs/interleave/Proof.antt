@@ -4,7 +4,7 @@ use denote.Ref.{now}
 use lib.ListN.{getD}
 use Rattle.interleaver.specs.Source.{codedBits}
 use Rattle.interleaver.specs.RowOrder.{rowPlace}
-use Rattle.words.proofs.StoreLaws.{stored-written}
+use Rattle.bits.proofs.StoreLaws.{stored-written}
 use borrow.Author.Needs.{needs}
 use Rattle.interleaver.proofs.interleave.Statement.{statement}
 use Rattle.interleaver.proofs.interleave.Tie as tie

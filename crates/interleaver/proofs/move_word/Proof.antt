@@ -2,7 +2,7 @@
 use mathlib.Core.Path.{ap, _∙_}
 use Prim.Native.Nat.{ℕ, _+_, _-_, _%_}
 use denote.Ref.{now}
-use Rattle.words.specs.Words.{wordByte}
+use Rattle.bits.specs.Loops.Words.{wordByte}
 use Rattle.interleaver.proofs.NibbleLaws.{nibble-out, nibble-back}
 use borrow.Author.Needs.{needs}
 use Rattle.interleaver.proofs.move_word.Statement.{statement}
@@ -14,8 +14,8 @@ mul-gather c = search needs
 gather-requires : tie.Need-gather-requires
 gather-requires c κs = search needs
 
-turned-back-requires : tie.Need-turned-back-requires
-turned-back-requires c κs = search needs
+rotated-back-requires : tie.Need-rotated-back-requires
+rotated-back-requires c κs = search needs
 
 scatter-requires : tie.Need-scatter-requires
 scatter-requires c κs = search needs
@@ -23,8 +23,8 @@ scatter-requires c κs = search needs
 gather-requires-2 : tie.Need-gather-requires-2
 gather-requires-2 c κs = search needs
 
-turned-requires : tie.Need-turned-requires
-turned-requires c κs = search needs
+rotated-requires : tie.Need-rotated-requires
+rotated-requires c κs = search needs
 
 mul-scatter : tie.Need-mul-scatter
 mul-scatter c = search needs
@@ -39,7 +39,7 @@ returns : tie.Need-returns
 returns c =
     let s = c .before .before .before .before .before .before .before .before .before in
     let word = c .before .before .before .before .before .gather in
-    let x = c .before .before .before .before .turned-back in
+    let x = c .before .before .before .before .rotated-back in
     nibble-back (s .args .n) (s .args .first) (s .args .back) (now (s .args .from)) (now (s .args .to)) _ (word .result) (x .result)
     (c .before .before .before .before .before .before .if1 .taken) (s .pre .4) (word .ensures)
     (λ b h. x .ensures b h ∙ ap (λ (t : ℕ). wordByte (word .result) ((b + t) % 4)) (s .pre .0)) (c .before .before .scatter .ensures)
@@ -51,7 +51,7 @@ returns-2 : tie.Need-returns-2
 returns-2 c =
     let s = c .before .before .before .before .before .before .before .before .before in
     let word = c .before .before .before .before .before .gather2 in
-    let x = c .before .before .before .before .turned in
+    let x = c .before .before .before .before .rotated in
     nibble-out (s .args .n) (s .args .first) (s .args .back) (now (s .args .from)) (now (s .args .to)) _ (word .result) (x .result)
     (c .before .before .before .before .before .before .if1 .left) (word .ensures)
     (λ b h. x .ensures b h ∙ ap (λ (t : ℕ). wordByte (word .result) ((b + (4 - t)) % 4)) (s .pre .0)) (c .before .before .scatter2 .ensures)
@@ -62,10 +62,10 @@ move-word-spec =
     (tie.spec
     mul-gather
     gather-requires
-    turned-back-requires
+    rotated-back-requires
     scatter-requires
     gather-requires-2
-    turned-requires
+    rotated-requires
     mul-scatter
     scatter-requires-2
     same-length

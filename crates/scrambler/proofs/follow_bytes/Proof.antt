@@ -7,7 +7,7 @@ use native.Mathlib.Omega.{arith}
 use lib.Bits.{bitXor}
 use lib.ListN.{length, getD, length-set}
 use Rattle.bits.specs.Lists.{written}
-use Rattle.bits.proofs.ListLaws.{written-of, written-next, written-all}
+use Rattle.bits.proofs.ListLaws.{written-same, written-next, written-all}
 use borrow.Author.Needs.{needs}
 use Rattle.scrambler.specs.Scrambler.{scramblerByte}
 use Rattle.scrambler.proofs.ScramblerLaws.{bytes-held}
@@ -30,7 +30,7 @@ abbrev μ-loop : tie.MeasureT-loop
 loop-holds : tie.Need-loop-holds Inv-loop μ-loop
 loop-holds c =
     let out = c .args .out .now in
-    (search needs, search needs, written-of (c .args .from) scramblerByte 0 out out (omega (arith, c .pre .0)) refl (c .pre .1 .0) (λ i h. refl), refl)
+    (search needs, search needs, written-same (c .args .from) scramblerByte 0 out (omega (arith, c .pre .0)) (c .pre .1 .0), refl)
 
 sub-out : tie.Need-sub-out Inv-loop μ-loop
 sub-out c = search needs

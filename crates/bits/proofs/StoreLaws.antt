@@ -2,7 +2,7 @@
 use mathlib.Core.Path.{_≡_, refl, sym, ap, _∙_}
 use mathlib.Core.List.{List}
 use mathlib.Core.Logic.{_⊎_, inl, inr}
-use Prim.Native.Nat.{ℕ, zero, suc, _+_, _<_, _≤_}
+use Prim.Native.Nat.{ℕ, zero, suc, _+_, _*_, _<_, _≤_}
 use native.Mathlib.Nat.{add-zero, add-suc, eq-or-lt-of-le, le-of-suc-le-suc, not-suc-le-zero}
 use native.Mathlib.Numerals.{add-one}
 use native.Mathlib.Omega.{arith}
@@ -10,12 +10,12 @@ use lib.ListN.{length, getD, set, length-set}
 use lib.Seq.{getD-set-same, getD-set-other, ext-getD}
 use lib.Dec.{eqb}
 use borrow.Author.Tests.{eqb-true, eqb-false}
 use Rattle.bits.specs.Lists.{written, lowest}
 use Rattle.bits.specs.Permutations.{Permutes}
 use Rattle.bits.proofs.NumberLaws.{lt-cases}
-use Rattle.bits.proofs.ListLaws.{written-of, written-ext, lowest-at, lowest-below}
+use Rattle.bits.proofs.ListLaws.{written-of, written-next, written-ext, lowest-at, lowest-below}
 use Rattle.bits.proofs.PermutationLaws.{inverse, inverse-after, after-inverse, inverse-lt}
-use Rattle.words.specs.Words.{stored}
+use Rattle.bits.specs.Loops.Words.{stored}
 
 pub stored-none : (w v : ℕ → ℕ) (out : List ℕ) → out ≡ stored 0 w v out
 unfolding stored
@@ -43,6 +43,18 @@ pub stored-append : (a b : ℕ) (w v : ℕ → ℕ) (out : List ℕ) → stored 
 unfolding stored
 stored-append a zero w v out = rw add-zero
 stored-append a (suc b) w v out = rw (add-suc, stored-append a b w v out)
+
+-- m elements side by side, stored after the first n
+pub stored-run : (m n : ℕ) (v f : ℕ → ℕ) (out now : List ℕ) → now ≡ written n f out → n + m ≤ length out → ((c : ℕ) → c < m → v c ≡ f (n + c))
+    → stored m (λ c. c * 1 + n) v now ≡ written (n + m) f out
+unfolding stored
+stored-run zero n v f out now e room same = e ∙ ap (λ (k : ℕ). written k f out) (sym (add-zero n))
+stored-run (suc m) n v f out now e room same =
+    let at : m * 1 + n ≡ n + m = omega arith in
+    let q : n + m + 1 ≡ n + suc m = omega arith in
+    let so-far : stored m (λ c. c * 1 + n) v now ≡ written (n + m) f out =
+    stored-run m n v f out now e (omega arith) (λ c h. same c (omega arith)) in
+    rw at (written-next (n + m) (v m) f out (stored m (λ c. c * 1 + n) v now) so-far (omega arith) (same m (omega arith)) ∙ ap (λ (k : ℕ). written k f out) q)
 
 pub stored-ext : (n : ℕ) (w v w′ v′ : ℕ → ℕ) (out : List ℕ)
     → ((k : ℕ) → k < n → w k ≡ w′ k) → ((k : ℕ) → k < n → v k ≡ v′ k)

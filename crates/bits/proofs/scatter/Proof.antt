@@ -1,15 +1,15 @@
--- `words::scatter` meets its contract. Assumes nothing.
+-- `bits::scatter` meets its contract. Assumes nothing.
 use mathlib.Core.Path.{refl}
 use Prim.Native.Nat.{_+_, _*_}
 use native.Mathlib.Omega.{arith}
 use denote.Ref.{now}
 use lib.ListN.{length-set}
-use Rattle.words.specs.Words.{wordByte}
-use Rattle.words.proofs.StoreLaws.{stored-four}
-use Rattle.words.proofs.WordLaws.{low-byte}
+use Rattle.bits.specs.Loops.Words.{wordByte}
+use Rattle.bits.proofs.StoreLaws.{stored-four}
+use Rattle.bits.proofs.WordLaws.{low-byte}
 use borrow.Author.Needs.{needs}
-use Rattle.words.proofs.scatter.Statement.{statement}
-use Rattle.words.proofs.scatter.Tie as tie
+use Rattle.bits.proofs.scatter.Statement.{statement}
+use Rattle.bits.proofs.scatter.Tie as tie
 
 low-requires : tie.Need-low-requires
 low-requires c κs = search needs

@@ -1,13 +1,13 @@
--- `words::gather` meets its contract. Assumes nothing.
+-- `bits::gather` meets its contract. Assumes nothing.
 use mathlib.Core.Path.{ap, _∙_}
 use Prim.Native.Nat.{ℕ, _+_, _*_}
 use native.Mathlib.Omega.{arith}
 use denote.Ref.{now}
 use lib.ListN.{getD}
-use Rattle.words.proofs.WordLaws.{joined-byte}
+use Rattle.bits.proofs.WordLaws.{joined-byte}
 use borrow.Author.Needs.{needs}
-use Rattle.words.proofs.gather.Statement.{statement}
-use Rattle.words.proofs.gather.Tie as tie
+use Rattle.bits.proofs.gather.Statement.{statement}
+use Rattle.bits.proofs.gather.Tie as tie
 
 shared-slice-read-wide : tie.Need-shared-slice-read-wide
 shared-slice-read-wide c = search needs

@@ -1,18 +1,16 @@
 -- Laws of a word's four bytes. Assumes nothing.
 use mathlib.Core.Path.{_≡_, refl, ap, ap₂, _∙_}
-use Prim.Native.Nat.{ℕ, zero, suc, _+_, _-_, _*_, _/_, _%_, _^_, _<_}
+use mathlib.Core.List.{List}
+use Prim.Native.Nat.{ℕ, _+_, _-_, _*_, _/_, _%_, _^_, _<_}
 use native.Mathlib.Omega.{arith}
 use lib.Bits.{bitOr, or-comm, or-self, or-shifted}
+use lib.ListN.{getD}
+use Rattle.bits.proofs.NumberLaws.{below-four}
 use Rattle.bits.proofs.RangeLaws.{agree, agree₂}
-use Rattle.words.specs.Words.{wordByte}
-
--- what holds at 0, 1, 2 and 3 holds below 4
-pub below-four : (P : ℕ → Type 0) → P 0 → P 1 → P 2 → P 3 → (k : ℕ) → k < 4 → P k
-below-four P a b c d zero h = a
-below-four P a b c d (suc zero) h = b
-below-four P a b c d (suc (suc zero)) h = c
-below-four P a b c d (suc (suc (suc zero))) h = d
-below-four P a b c d (suc (suc (suc (suc k)))) h = absurd (omega arith)
+use Rattle.bits.specs.Bits.{bitAt}
+use Rattle.bits.specs.Lists.{tabulate}
+use Rattle.bits.specs.Loops.Words.{nibble, wordByte}
+use Rattle.bits.proofs.ListLaws.{getD-tabulate}
 
 pub low-byte : {x : ℕ} (w : ℕ) → x ≡ w % 256 → x ≡ wordByte w 0
 unfolding wordByte
@@ -28,7 +26,7 @@ unfolding wordByte
 joined-byte f a b c d ha hb hc hd ea eb ec ed =
     below-four (λ k. wordByte (joined a b c d) k ≡ f k) (omega arith) (omega arith) (omega arith) (omega arith)
 
--- a word turned left by bytes
+-- a word rotated left by bytes
 abbrev pub rotated : ℕ → ℕ → ℕ
 rotated w t = bitOr (w * 2 ^ (t * 8) % 4294967296) (w / 2 ^ ((32 - t * 8) % 32))
 
@@ -83,15 +81,15 @@ module _ (w : ℕ) (hw : w < 4294967296) where
   pub rotated-byte : (t : ℕ) → t < 4 → (b : ℕ) → b < 4 → wordByte (rotated w t) b ≡ wordByte w ((b + (4 - t)) % 4)
   rotated-byte =
       below-four (λ t. (b : ℕ) → b < 4 → wordByte (rotated w t) b ≡ wordByte w ((b + (4 - t)) % 4))
-      (bytes (λ b. (b + 4) % 4) (rotated w 0) (turn 0 ∙ none _ _ _ _ (byte-lt 0) (byte-lt 1) (byte-lt 2) (byte-lt 3)))
-      (bytes (λ b. (b + 3) % 4) (rotated w 1) (turn 1 ∙ one _ _ _ _ (byte-lt 0) (byte-lt 1) (byte-lt 2) (byte-lt 3)))
-      (bytes (λ b. (b + 2) % 4) (rotated w 2) (turn 2 ∙ two _ _ _ _ (byte-lt 0) (byte-lt 1) (byte-lt 2) (byte-lt 3)))
-      (bytes (λ b. (b + 1) % 4) (rotated w 3) (turn 3 ∙ three _ _ _ _ (byte-lt 0) (byte-lt 1) (byte-lt 2) (byte-lt 3)))
+      (bytes (λ b. (b + 4) % 4) (rotated w 0) (by-bytes 0 ∙ none _ _ _ _ (byte-lt 0) (byte-lt 1) (byte-lt 2) (byte-lt 3)))
+      (bytes (λ b. (b + 3) % 4) (rotated w 1) (by-bytes 1 ∙ one _ _ _ _ (byte-lt 0) (byte-lt 1) (byte-lt 2) (byte-lt 3)))
+      (bytes (λ b. (b + 2) % 4) (rotated w 2) (by-bytes 2 ∙ two _ _ _ _ (byte-lt 0) (byte-lt 1) (byte-lt 2) (byte-lt 3)))
+      (bytes (λ b. (b + 1) % 4) (rotated w 3) (by-bytes 3 ∙ three _ _ _ _ (byte-lt 0) (byte-lt 1) (byte-lt 2) (byte-lt 3)))
     where
-      turn : (t : ℕ) → rotated w t ≡ rotated (joined (wordByte w 0) (wordByte w 1) (wordByte w 2) (wordByte w 3)) t
-      turn t = ap (λ (x : ℕ). rotated x t) whole
+      by-bytes : (t : ℕ) → rotated w t ≡ rotated (joined (wordByte w 0) (wordByte w 1) (wordByte w 2) (wordByte w 3)) t
+      by-bytes t = ap (λ (x : ℕ). rotated x t) whole
 
-  -- a word turned right, which is left by the rest of the four bytes
+  -- a word rotated right, which is left by the rest of the four bytes
   pub rotated-back-byte : (t : ℕ) → t < 4 → (b : ℕ) → b < 4
       → wordByte (bitOr (w / 2 ^ (t * 8)) (w * 2 ^ ((32 - t * 8) % 32) % 4294967296)) b ≡ wordByte w ((b + t) % 4)
   rotated-back-byte t h b l =
@@ -101,3 +99,21 @@ module _ (w : ℕ) (hw : w < 4294967296) where
       (agree 4 (λ t. (32 - t * 8) % 32) (λ t. (4 - t) % 4 * 8) tt t h) (agree 4 (λ t. t * 8) (λ t. (32 - (4 - t) % 4 * 8) % 32) tt t h))
       ∙ rotated-byte ((4 - t) % 4) (omega arith) b l
       ∙ ap (wordByte w) (agree₂ 4 4 (λ t b. (b + (4 - (4 - t) % 4)) % 4) (λ t b. (b + t) % 4) tt t b h l)
+
+-- ---- the bits of a byte by the words of its two halves
+
+module _ (words : List ℕ) (b j : ℕ) (held : words ≡ tabulate 16 nibble) (b-lt : b < 256) (j-lt : j < 4) where
+  word-at : (n : ℕ) → n < 16 → wordByte (getD words n 0) j ≡ wordByte (nibble n) j
+  word-at n h = ap (λ (w : ℕ). wordByte w j) (ap (λ (l : List ℕ). getD l n 0) held ∙ getD-tabulate 16 nibble n 0 h)
+
+  pub word-high : wordByte (getD words (b / 16) 0) j ≡ bitAt (7 - (0 + j)) b
+  unfolding nibble wordByte
+  word-high =
+      word-at (b / 16) (omega arith)
+      ∙ agree₂ 256 4 (λ b j. wordByte (nibble (b / 16)) j) (λ b j. bitAt (7 - (0 + j)) b) tt b j b-lt j-lt
+
+  pub word-low : wordByte (getD words (b % 16) 0) j ≡ bitAt (7 - (4 + j)) b
+  unfolding nibble wordByte
+  word-low =
+      word-at (b % 16) (omega arith)
+      ∙ agree₂ 256 4 (λ b j. wordByte (nibble (b % 16)) j) (λ b j. bitAt (7 - (4 + j)) b) tt b j b-lt j-lt

@@ -1,3 +1,0 @@
--- Laws of words and of stores. Assumes nothing.
-pub mod StoreLaws
-pub mod WordLaws

@@ -1,2 +1,0 @@
--- What the contracts and the laws of `words` cite. Assumes nothing.
-pub mod Words
