@@ -1,21 +1,14 @@
--- Laws of the card's layout: each field from the bytes that hold it, and what the tests of a card say of its fields. Assumes nothing.
-use mathlib.Core.Path.{_≡_, refl}
-use mathlib.Core.Bool.{Bool, true, false, not, _&&_, _||_}
+-- Laws of reading a card: each field from the bytes that hold it. Assumes nothing.
+use mathlib.Core.Path.{_≡_}
 use mathlib.Core.List.{List}
 use Prim.Native.Nat.{ℕ, _+_, _*_, _/_, _%_, _^_, _≤_, _<_}
 use native.Mathlib.Omega.{arith}
-use lib.Dec.{eqb, leb}
 use lib.ListN.{getD}
 use lib.Pow.{pow-mono}
 use Rattle.bits.specs.Bits.{field}
 use Rattle.bits.proofs.BitLaws.{field-append, field-byte, field-in-byte, field-lt}
 use Rattle.card.specs.declared.Card.{Card}
-use borrow.Author.Tests.{eqb-true, leb-true}
-use Rattle.bits.proofs.BoolLaws.{both}
 use Rattle.card.specs.Card.{cardOf}
-use Rattle.card.specs.Entries.{definedMode}
-
--- ---- reading: each field from the bytes that hold it
 
 -- before the last byte the serial leaves room for it
 pub serial-lt : (bytes : List ℕ) (i serial : ℕ) → i < 8 → serial ≡ field bytes 24 (8 * i) → serial < 2 ^ 56
@@ -75,27 +68,3 @@ module _ (bytes : List ℕ) (small : (i : ℕ) → getD bytes i 0 < 256) where
         spare = spare i;
         serial = e i;
       }
-
--- ---- writing
-
--- what the tests of a card say of its fields
-pub versioned-is : (version spare : ℕ) → (eqb version 1 && eqb spare 0) ≡ true → (version ≡ 1) × (spare ≡ 0)
-versioned-is version spare e = let (v, s) = both (eqb version 1) (eqb spare 0) e in (eqb-true version 1 v, eqb-true spare 0 s)
-
-module _ (band kind rate modulation : ℕ) where
-  rate-small : (b : Bool) → eqb rate 0 ≡ b → (b || eqb rate 1 && eqb kind 4) ≡ true → rate ≤ 1
-  rate-small true e u = omega (arith, eqb-true rate 0 e)
-  rate-small false e u = omega (arith, eqb-true rate 1 (both (eqb rate 1) (eqb kind 4) u .0))
-
-  pub defined-small : definedMode band kind rate modulation ≡ true → (band ≤ 1) × (kind ≤ 4) × (rate ≤ 1) × (modulation ≤ 2)
-  unfolding definedMode
-  defined-small e =
-      let b = leb band 1 in
-      let k = leb kind 4 in
-      let m = leb modulation 2 in
-      let r = eqb rate 0 || eqb rate 1 && eqb kind 4 in
-      let (four, last) = both (b && k && m && r) (not (eqb kind 0) || eqb modulation 1) e in
-      let (three, rates) = both (b && k && m) r four in
-      let (two, modulations) = both (b && k) m three in
-      let (bands, kinds) = both b k two in
-      (leb-true band 1 bands, leb-true kind 4 kinds, rate-small (eqb rate 0) refl rates, leb-true modulation 2 modulations)

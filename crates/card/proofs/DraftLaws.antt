@@ -11,7 +11,8 @@ use Rattle.refusal.proofs.OutcomeLaws.{refused-as}
 use Rattle.text.specs.Text.{ascii, decimal, line, appended}
 use Rattle.text.proofs.TextLaws.{take-appended}
 use Rattle.card.specs.declared.Draft.{Draft}
-use Rattle.card.specs.Text.{drafted, Holds, textOf}
+use Rattle.card.specs.Text.{textOf}
+use Rattle.card.specs.Loops.Drafts.{drafted, Holds}
 
 -- a text was appended to a draft
 pub holds-more : (d r : Draft) (s : List ℕ) (most : ℕ) → r .bytes ≡ appended (d .bytes) (d .len) s → r .len ≡ d .len + length s

@@ -12,11 +12,13 @@ use Rattle.bits.specs.Bits.{bitAt, byteOf, bytesOf}
 use Rattle.bits.specs.Lists.{tabulate}
 use borrow.Author.Tests.{ltb-true}
 use Rattle.bits.proofs.BoolLaws.{both}
-use Rattle.card.specs.Entries.{versioned, defined}
-use Rattle.card.proofs.CardLaws.{versioned-is, defined-small}
+use Rattle.card.specs.Modes.{defined}
+use Rattle.card.specs.Entries.{versioned}
+use Rattle.card.proofs.ModeLaws.{versioned-is, defined-mode}
 use Rattle.bits.proofs.BitLaws.{pack-ext, pack-shifted, length-bytes}
 use Rattle.card.specs.declared.Card.{Card}
-use Rattle.card.specs.Card.{joined, Fitting, bytesOfCard}
+use Rattle.card.specs.Card.{packed, bytesOfCard}
+use Rattle.card.specs.Loops.Fields.{Fitting}
 
 -- byte k of a number of 88 bits
 byte-at : (n k : ℕ) → k ≤ 10 → byteOf (λ i. bitAt (87 - i) n) k ≡ n / 2 ^ (80 - 8 * k) % 256
@@ -54,7 +56,7 @@ serial-byte h s k l =
 
 -- the seven short fields as one number
 abbrev short : Card → ℕ
-short c = joined (4 ∷ 2 ∷ 3 ∷ 1 ∷ 2 ∷ 11 ∷ 1 ∷ []) (c .version ∷ c .band ∷ c .kind ∷ c .rate ∷ c .modulation ∷ c .taps ∷ c .spare ∷ []) 0
+short c = packed (4 ∷ 2 ∷ 3 ∷ 1 ∷ 2 ∷ 11 ∷ 1 ∷ []) (c .version ∷ c .band ∷ c .kind ∷ c .rate ∷ c .modulation ∷ c .taps ∷ c .spare ∷ []) 0
 
 module _ (c : Card) (fits : Fitting c) where
   first : c .version * 16 + c .band * 4 + c .kind / 2 ≡ short c / 2 ^ 16 % 256
@@ -67,13 +69,13 @@ module _ (c : Card) (fits : Fitting c) where
   third = omega (arith, fits .version, fits .band, fits .kind, fits .rate, fits .modulation, fits .taps, fits .spare)
 
   -- the eleven bytes, from what each byte of the serial is
-  pub packed : c .serial < 2 ^ 64 → (s₀ s₁ s₂ s₃ s₄ s₅ s₆ s₇ : ℕ)
+  pub bytes-packed : c .serial < 2 ^ 64 → (s₀ s₁ s₂ s₃ s₄ s₅ s₆ s₇ : ℕ)
       → s₀ ≡ c .serial / 2 ^ (56 - 8 * 0) % 256 → s₁ ≡ c .serial / 2 ^ (56 - 8 * 1) % 256 → s₂ ≡ c .serial / 2 ^ (56 - 8 * 2) % 256 → s₃ ≡ c .serial / 2 ^ (56 - 8 * 3) % 256 → s₄ ≡ c .serial / 2 ^ (56 - 8 * 4) % 256 → s₅ ≡ c .serial / 2 ^ (56 - 8 * 5) % 256 → s₆ ≡ c .serial / 2 ^ (56 - 8 * 6) % 256 → s₇ ≡ c .serial / 2 ^ (56 - 8 * 7) % 256
       → (c .version * 16 + c .band * 4 + c .kind / 2) ∷ (c .kind % 2 * 128 + c .rate * 64 + c .modulation * 16 + c .taps / 128) ∷ (c .taps % 128 * 2 + c .spare)
       ∷ s₀ ∷ s₁ ∷ s₂ ∷ s₃ ∷ s₄ ∷ s₅ ∷ s₆ ∷ s₇ ∷ []
       ≡ bytesOfCard c
   unfolding bytesOfCard bytesOf tabulate
-  packed small s₀ s₁ s₂ s₃ s₄ s₅ s₆ s₇ e₀ e₁ e₂ e₃ e₄ e₅ e₆ e₇ =
+  bytes-packed small s₀ s₁ s₂ s₃ s₄ s₅ s₆ s₇ e₀ e₁ e₂ e₃ e₄ e₅ e₆ e₇ =
       ap₂ _∷_ (first ∙ sym (head-byte (short c) (c .serial) 0 small (omega arith)))
       (ap₂ _∷_ (second ∙ sym (head-byte (short c) (c .serial) 1 small (omega arith)))
       (ap₂ _∷_ (third ∙ sym (head-byte (short c) (c .serial) 2 small (omega arith)))
@@ -91,12 +93,12 @@ pub writable-fits : (c : Card) → versioned c ≡ true → (defined c && ltb (c
 writable-fits c v w =
     let (one, none) = versioned-is (c .version) (c .spare) v in
     let (mode, taps) = both (defined c) (ltb (c .taps) (2 ^ 11)) w in
-    let (band, kind, rate, modulation) = defined-small (c .band) (c .kind) (c .rate) (c .modulation) mode in
+    let (kinds, bands, modulations) = defined-mode (c .band) (c .kind) (c .rate) (c .modulation) mode in
     record {
       version = omega arith;
       band = omega arith;
-      kind = omega arith;
-      rate = omega arith;
+      kind = omega (arith, kinds .kind-lt);
+      rate = kinds .rate-lt;
       modulation = omega arith;
       taps = ltb-true (c .taps) (2 ^ 11) taps;
       spare = omega arith;

@@ -1,6 +1,6 @@
 -- The job card (paper 01's term): eight fields in eleven bytes, bit-packed, most significant first. Assumes nothing.
 use mathlib.Core.List.{List, [], _∷_}
-use Prim.Native.Nat.{ℕ, _+_, _-_, _*_, _^_, _<_}
+use Prim.Native.Nat.{ℕ, _+_, _-_, _*_, _^_}
 use lib.ListN.{getD}
 use Rattle.bits.specs.Bits.{bitAt, bytesOf, field}
 use Rattle.card.specs.declared.Card.{Card}
@@ -15,10 +15,10 @@ fieldsFrom bytes at [] = []
 fieldsFrom bytes at (w ∷ ws) = field bytes at w ∷ fieldsFrom bytes (at + w) ws
 
 -- the number whose bits are those of n, and then the fields', one behind the other
-abbrev pub joined : List ℕ → List ℕ → ℕ → ℕ
-joined [] vs n = n
-joined (w ∷ ws) [] n = n
-joined (w ∷ ws) (v ∷ vs) n = joined ws vs (n * 2 ^ w + v)
+abbrev pub packed : List ℕ → List ℕ → ℕ → ℕ
+packed [] vs n = n
+packed (w ∷ ws) [] n = n
+packed (w ∷ ws) (v ∷ vs) n = packed ws vs (n * 2 ^ w + v)
 
 -- a card from its fields in order, and its fields in order
 abbrev pub cardFrom : List ℕ → Card
@@ -42,14 +42,4 @@ unfoldable pub cardOf : List ℕ → Card
 cardOf bytes = cardFrom (fieldsFrom bytes 0 widths)
 
 unfoldable pub bytesOfCard : Card → List ℕ
-bytesOfCard c = bytesOf 11 (λ i. bitAt (87 - i) (joined widths (fieldsOf c) 0))
-
--- each field but the serial fits its bits
-pub record Fitting (c : Card) : Type 0 where
-  pub version : c .version < 16
-  pub band : c .band < 4
-  pub kind : c .kind < 8
-  pub rate : c .rate < 2
-  pub modulation : c .modulation < 4
-  pub taps : c .taps < 2048
-  pub spare : c .spare < 2
+bytesOfCard c = bytesOf 11 (λ i. bitAt (87 - i) (packed widths (fieldsOf c) 0))

@@ -1,8 +1,8 @@
 -- What reading and writing a card answer, for all inputs, by the rows of paper 01's table. Assumes nothing.
-use mathlib.Core.Bool.{Bool, not, _&&_, _||_}
+use mathlib.Core.Bool.{Bool, not, _&&_}
 use mathlib.Core.List.{List, [], _∷_, _++_}
 use Prim.Native.Nat.{ℕ, _^_}
-use lib.Dec.{eqb, leb, ltb}
+use lib.Dec.{eqb, ltb}
 use lib.ListN.{length, drop}
 use Rattle.refusal.specs.declared.Refusal.the-variants.{CardLength, Version, Mode, Room}
 use Rattle.refusal.specs.Report.{Report, done, refusal}
@@ -10,15 +10,8 @@ use Rattle.refusal.specs.Outcome.{Row, row, Outcome, reported, outcome}
 use Rattle.card.specs.declared.Card.{Card}
 use Rattle.card.specs.declared.CardRead.{CardRead}
 use Rattle.card.specs.declared.CardRead.the-variants.{Good, Refused}
+use Rattle.card.specs.Modes.{defined}
 use Rattle.card.specs.Card.{cardOf, fieldsOf, bytesOfCard}
-
--- band 0 or 1; kind 0 to 4; modulation 0 to 2; rate 0, or 1 with kind 4; kind 0 only with QPSK
-unfoldable pub definedMode : ℕ → ℕ → ℕ → ℕ → Bool
-definedMode band kind rate modulation =
-    leb band 1 && leb kind 4 && leb modulation 2 && (eqb rate 0 || eqb rate 1 && eqb kind 4) && (not (eqb kind 0) || eqb modulation 1)
-
-abbrev pub defined : Card → Bool
-defined c = definedMode (c .band) (c .kind) (c .rate) (c .modulation)
 
 -- version 1, and spare 0
 abbrev pub versioned : Card → Bool

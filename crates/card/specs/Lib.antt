@@ -2,4 +2,6 @@
 pub mod Modes
 pub mod Card
 pub mod Entries
+pub mod Gate
 pub mod Text
+pub mod Loops

@@ -1,15 +1,13 @@
 -- The printed card: a total definition on the bytes that were read. Assumes nothing.
 use mathlib.Core.List.{List, [], _∷_, _++_}
-use mathlib.Core.Path.{_≡_}
-use Prim.Native.Nat.{ℕ, _≤_}
+use Prim.Native.Nat.{ℕ}
 use lib.Dec.{ltb}
-use lib.ListN.{length, take, drop}
+use lib.ListN.{length, drop}
 use Rattle.refusal.specs.declared.Refusal.the-variants.{Room}
 use Rattle.refusal.specs.Report.{Report, done, refused}
 use Rattle.refusal.specs.Outcome.{Row, row, Outcome, outcome}
 use Rattle.text.specs.Text.{ascii, decimal, binary, line}
 use Rattle.card.specs.declared.Card.{Card}
-use Rattle.card.specs.declared.Draft.{Draft}
 use Rattle.card.specs.Entries.{readCard}
 
 -- a line for each field but spare; taps are eleven binary digits, the others decimal
@@ -39,13 +37,3 @@ textRows bytes out = row (ltb (length out) (length (cardText bytes))) (Room (len
 
 unfoldable pub textCard : List ℕ → List ℕ → Outcome ℕ (List ℕ)
 textCard bytes out = outcome (textRows bytes out) out (length (cardText bytes)) (cardText bytes ++ drop (length (cardText bytes)) out)
-
--- the text that a draft holds so far
-unfoldable pub drafted : Draft → List ℕ
-drafted d = take (d .len) (d .bytes)
-
--- a draft holds a text, and the text is no longer than `most`
-pub record Holds (d : Draft) (text : List ℕ) (most : ℕ) : Type 0 where
-  pub text-is : drafted d ≡ text
-  pub len-is : d .len ≡ length text
-  pub len-le : d .len ≤ most

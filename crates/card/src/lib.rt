@@ -14,10 +14,13 @@ ghost use lib.ListN.{length, drop};
 ghost use Rattle.bits.specs.Bits.{field};
 ghost use Rattle.refusal.specs.Report.{answer, refusal};
 ghost use Rattle.text.specs.Text.{line, decimal, binary};
-ghost use Rattle.card.specs.Text.{drafted, Holds, modeLines, cardLines, textOf, cardText, textCard};
-ghost use Rattle.card.specs.Modes.{blockBytes, carrierBits};
-ghost use Rattle.card.specs.Card.{cardOf, bytesOfCard, fieldsOf, Fitting};
-ghost use Rattle.card.specs.Entries.{definedMode, cardRead, readCard, readFields, writeCard};
+ghost use Rattle.card.specs.Text.{modeLines, cardLines, textOf, cardText, textCard};
+ghost use Rattle.card.specs.Modes.{blockBytes, carrierBits, definedMode};
+ghost use Rattle.card.specs.Card.{cardOf, bytesOfCard, fieldsOf};
+ghost use Rattle.card.specs.Entries.{cardRead, readCard, readFields, writeCard};
+ghost use Rattle.card.specs.Gate.{gate};
+ghost use Rattle.card.specs.Loops.Drafts.{drafted, Holds};
+ghost use Rattle.card.specs.Loops.Fields.{Fitting};
 
 // By kind: the bytes of a block.
 const BLOCK_BYTES: [usize; 5] = [16, 72, 136, 264, 520];
@@ -161,6 +164,24 @@ pub fn read_card(card: &[u8]) -> CardRead
         return CardRead::Refused(Refusal::Mode);
     }
     CardRead::Good(c)
+}
+
+// The gate of the entries above: the card in some bytes, where its kind is one from `first` to `last`, or refusal 1, 2 or 3.
+pub fn served_card(card: &[u8], first: u64, last: u64) -> CardRead
+    ensures { λ r. ⌜ cardRead r ≡ gate first last (now (card .entry)) ⌝ }
+{
+    match read_card(card) {
+        CardRead::Refused(r) => CardRead::Refused(r),
+        CardRead::Good(c) => {
+            if c.kind < first {
+                return CardRead::Refused(Refusal::Mode);
+            }
+            if last < c.kind {
+                return CardRead::Refused(Refusal::Mode);
+            }
+            CardRead::Good(c)
+        }
+    }
 }
 
 // Whether a mode is defined and its taps fit eleven bits.

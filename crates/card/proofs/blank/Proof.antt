@@ -1,7 +1,7 @@
 -- `card::blank` meets its contract. Assumes nothing.
 use mathlib.Core.Path.{refl}
 use native.Mathlib.Omega.{arith}
-use Rattle.card.specs.Text.{drafted}
+use Rattle.card.specs.Loops.Drafts.{drafted}
 use Rattle.card.proofs.blank.Statement.{statement}
 use Rattle.card.proofs.blank.Tie as tie
 

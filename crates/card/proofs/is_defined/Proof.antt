@@ -1,7 +1,7 @@
 -- `card::is_defined` meets its contract. Assumes nothing.
 use mathlib.Core.Path.{sym, _∙_}
 use borrow.Author.Tests.{le-leb, lt-leb}
-use Rattle.card.specs.Entries.{definedMode}
+use Rattle.card.specs.Modes.{definedMode}
 use borrow.Author.Needs.{needs}
 use Rattle.card.proofs.is_defined.Statement.{statement}
 use Rattle.card.proofs.is_defined.Tie as tie

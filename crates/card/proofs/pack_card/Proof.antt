@@ -1,6 +1,6 @@
 -- `card::pack_card` meets its contract: three bytes of the short fields, and eight of the serial. Assumes nothing.
 use native.Mathlib.Omega.{arith}
-use Rattle.card.proofs.WriteLaws.{packed}
+use Rattle.card.proofs.WriteLaws.{bytes-packed}
 use borrow.Author.Needs.{needs}
 use Rattle.card.proofs.pack_card.Statement.{statement}
 use Rattle.card.proofs.pack_card.Tie as tie
@@ -76,7 +76,7 @@ serial-byte-requires-8 c κs = search needs
 
 returns : tie.Need-returns
 returns c =
-    packed _ (c .before .before .before .before .before .before .before .before .before .before .before .before .before .before .before .before .before .pre) (omega (arith, c .before .before .before .before .before .before .before .before .struct-known9 .given)) _ _ _ _ _ _ _ _
+    bytes-packed _ (c .before .before .before .before .before .before .before .before .before .before .before .before .before .before .before .before .before .pre) (omega (arith, c .before .before .before .before .before .before .before .before .struct-known9 .given)) _ _ _ _ _ _ _ _
     (c .before .before .before .before .before .before .before .serial-byte .ensures) (c .before .before .before .before .before .before .serial-byte2 .ensures) (c .before .before .before .before .before .serial-byte3 .ensures) (c .before .before .before .before .serial-byte4 .ensures)
     (c .before .before .before .serial-byte5 .ensures) (c .before .before .serial-byte6 .ensures) (c .before .serial-byte7 .ensures) (c .serial-byte8 .ensures)
 

@@ -1,0 +1,97 @@
+-- Laws of the gate, over any kinds that an entry serves and any rows behind the card's. Assumes nothing.
+use mathlib.Core.Path.{_≡_, refl, sym, ap, _∙_}
+use mathlib.Core.Bool.{true, false, not}
+use mathlib.Core.List.{List, [], _∷_, _++_}
+use Prim.Native.Nat.{ℕ, _<_, _^_}
+use lib.Dec.{leb}
+use borrow.Author.Tests.{leb-true, not-false}
+use Rattle.bits.proofs.BitLaws.{field-lt}
+use Rattle.bits.proofs.BoolLaws.{both}
+use Rattle.refusal.specs.declared.Refusal.{Refusal}
+use Rattle.refusal.specs.declared.Refusal.the-variants.{Mode}
+use Rattle.refusal.specs.Report.{done, refusal}
+use Rattle.refusal.specs.Outcome.{Row, row, firstApplicable, rowOrder, inOrder, outcome}
+use Rattle.refusal.proofs.OutcomeLaws.{outcomeBy, done-same, reported-done, refused-report, passed-report, refused-outcome, passed-outcome}
+use Rattle.card.specs.declared.Card.{Card}
+use Rattle.card.specs.Card.{cardOf}
+use Rattle.card.specs.Modes.{defined}
+use Rattle.card.specs.Entries.{cardRows, readCard}
+use Rattle.card.specs.Gate.{within, gateRows, gate, Served}
+use Rattle.card.proofs.ModeLaws.{defined-mode}
+
+-- a card that is read is the one in the bytes
+pub card-read : (card : List ℕ) (c : Card) → readCard card ≡ done c → c ≡ cardOf card
+unfolding readCard
+card-read card c e = done-same (sym e ∙ reported-done (cardRows card) (cardOf card) c e .1)
+
+-- taps have eleven bits
+pub card-taps : (card : List ℕ) → cardOf card .taps < 2 ^ 11
+unfolding cardOf
+card-taps card = field-lt card 12 11
+
+module _ (first last : ℕ) (card : List ℕ) where
+  abbrev kindRow : List Row
+  kindRow = row (not (within first last (cardOf card))) Mode ∷ []
+
+  -- ---- by what reading the card reports
+
+  -- a card that reading refuses is refused alike by every entry
+  pub refused-alike : (r : Refusal) → readCard card ≡ refusal r → gate first last card ≡ refusal r
+  unfolding readCard gate
+  refused-alike r e = refused-report (cardRows card) kindRow (cardOf card) r (cardOf card) e
+
+  by-kind : (c : Card) → readCard card ≡ done c → gate first last card ≡ firstApplicable kindRow refusal (done (cardOf card))
+  unfolding readCard gate
+  by-kind c e = passed-report (cardRows card) kindRow (cardOf card) c (cardOf card) e
+
+  pub other-kind : (c : Card) → readCard card ≡ done c → within first last c ≡ false → gate first last card ≡ refusal Mode
+  other-kind c e other = by-kind c e ∙ (rw (← card-read card c e, other))
+
+  pub served-kind : (c : Card) → readCard card ≡ done c → within first last c ≡ true → gate first last card ≡ done c
+  served-kind c e is = by-kind c e ∙ (rw (← card-read card c e, is))
+
+  -- ---- a card that passes is the one in the bytes, and the entry serves it
+
+  pub gate-card : (c : Card) → gate first last card ≡ done c → c ≡ cardOf card
+  unfolding gate
+  gate-card c e = done-same (sym e ∙ reported-done (gateRows first last card) (cardOf card) c e .1)
+
+  pub gate-served : (c : Card) → gate first last card ≡ done c → Served first last c
+  unfolding gate
+  gate-served c e =
+      let d = cardOf card in
+      let (long, (version, (mode, (kind, none)))) = reported-done (gateRows first last card) d c e .0 in
+      let is : defined d ≡ true = not-false (defined d) mode in
+      let (low, high) = both (leb first (d .kind)) (leb (d .kind) last) (not-false (within first last d) kind) in
+      let (kinds, bands, modulations) = defined-mode (d .band) (d .kind) (d .rate) (d .modulation) is in
+      rw (gate-card c e)
+      (record {
+        mode = is;
+        kinds = kinds;
+        from-first = leb-true first (d .kind) low;
+        to-last = leb-true (d .kind) last high;
+        band-lt = bands;
+        modulation-lt = modulations;
+        taps-lt = card-taps card;
+      })
+
+  -- ---- the outcome of an entry whose own rows stand behind the card's
+
+  module _ {A B : Type 0} (rows : Card → List Row) (out : B) (a : Card → A) (made : Card → B)
+      (behind : inOrder rowOrder (gateRows first last card ++ rows (cardOf card)) ≡ gateRows first last card ++ inOrder rowOrder (rows (cardOf card))) where
+    -- where the gate refuses, its refusal, and the lent memory kept
+    pub gate-refuses : (r : Refusal) → gate first last card ≡ refusal r
+        → outcome (gateRows first last card ++ rows (cardOf card)) out (a (cardOf card)) (made (cardOf card)) ≡ record { report = refusal r; out = out }
+    unfolding gate
+    gate-refuses r e =
+        ap (λ (rs : List Row). outcomeBy rs out (a (cardOf card)) (made (cardOf card))) behind
+        ∙ refused-outcome (gateRows first last card) (inOrder rowOrder (rows (cardOf card))) (cardOf card) r out (a (cardOf card)) (made (cardOf card)) e
+
+    -- where it lets a card pass, the outcome of the entry's own rows
+    pub gate-passes : (c : Card) → gate first last card ≡ done c
+        → outcome (gateRows first last card ++ rows (cardOf card)) out (a (cardOf card)) (made (cardOf card)) ≡ outcome (rows c) out (a c) (made c)
+    unfolding gate
+    gate-passes c e =
+        ap (λ (rs : List Row). outcomeBy rs out (a (cardOf card)) (made (cardOf card))) behind
+        ∙ passed-outcome (gateRows first last card) (inOrder rowOrder (rows (cardOf card))) (cardOf card) c out (a (cardOf card)) (made (cardOf card)) e
+        ∙ ap (λ (d : Card). outcome (rows d) out (a d) (made d)) (sym (gate-card c e))

@@ -1,0 +1,3 @@
+-- What only the code's own contracts cite. Assumes nothing.
+pub mod Drafts
+pub mod Fields
