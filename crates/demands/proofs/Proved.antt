@@ -13,12 +13,13 @@ use Rattle.constellation.specs.Carriers.{throughPoints}
 use Rattle.constellation.proofs.RoundTrip.{list-back}
 use Rattle.bands.specs.Bands.{bandCount, carriers}
 use Rattle.diversity.specs.Lanes.{carrierCount, itemCount, fewestCopies, mostCopies}
-use Rattle.frame_control.specs.Entries.{bandOf, frameRows, wordRows, readRows, tapsOf, sentItem, send, read}
+use Rattle.frame_control.specs.Entries.{bandOf, wordRows, readRows, tapsOf, sentItem, send, read}
 use Rattle.frame_control.specs.Words.{made}
 use Rattle.frame_control.proofs.FrameLaws.{send-good, made-is, clean, comes-back, refused-at-limit, made-length, made-binary}
 use Rattle.card.specs.Card.{cardOf}
 use Rattle.card.specs.Modes.{blockBytes, carrierBits}
 use Rattle.card.specs.Entries.{fieldRows, readFields, writeRows, writeCard}
+use Rattle.card.specs.Gate.{gateRows}
 use Rattle.card.specs.Text.{textRows, textCard}
 use Rattle.card.proofs.RoundTrip.{write-after-read, read-after-write}
 use Rattle.constellation.specs.Entries.{mapRows, mapOutcome, sliceRows, sliceOutcome}
@@ -43,8 +44,8 @@ keeps =
       card-text = λ bytes out. kept {A = ℕ} (textRows bytes out) out _ _;
       map = λ modulation bits point. kept {A = ℕ} (mapRows modulation bits point) point _ _;
       slice = λ modulation received out. kept {A = ℕ} (sliceRows modulation out) out _ _;
-      frame-send = λ card word out. kept {A = ℕ} (frameRows card ++ wordRows (bandOf card) word out) out _ _;
-      frame-read = λ card items out. kept {A = ℕ} (frameRows card ++ readRows (bandOf card) (tapsOf card) items out) out _ _;
+      frame-send = λ card word out. kept {A = ℕ} (gateRows 0 0 card ++ wordRows (bandOf card) word out) out _ _;
+      frame-read = λ card items out. kept {A = ℕ} (gateRows 0 0 card ++ readRows (bandOf card) (tapsOf card) items out) out _ _;
       payload-send = λ card block out. kept {A = ℕ} (payloadRows card ++ sendRows (layoutOfCard card) (cardOf card .kind) block out) out _ _;
       payload-read = λ card items out. kept {A = ℕ} (payloadRows card ++ payloadReadRows (layoutOfCard card) (cardOf card .kind) (cardOf card .rate) (cardOf card .taps) items out) out _ _;
     }

@@ -9,7 +9,8 @@ use Rattle.bits.specs.Sums.{sum, count}
 use Rattle.refusal.specs.Report.{Report, done, refused}
 use Rattle.card.specs.declared.Card.{Card}
 use Rattle.card.specs.Card.{fieldsOf, cardOf}
-use Rattle.card.specs.Entries.{definedMode, readCard}
+use Rattle.card.specs.Modes.{definedMode}
+use Rattle.card.specs.Entries.{readCard}
 use Rattle.card.specs.Text.{modeLines, cardLines, cardText}
 use Rattle.text.specs.Text.{ascii, places, decimal, binary}
 use Rattle.scrambler.specs.Scrambler.{feedback, shifted, afterShifts, scramblerBit, allOnes}

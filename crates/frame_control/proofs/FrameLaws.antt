@@ -1,22 +1,21 @@
 -- Clean return and demand 3 over the entries' outcome definitions. Assumes nothing.
 use mathlib.Core.Path.{_≡_, sym, ap, _∙_}
-use mathlib.Core.Bool.{false, not}
+use mathlib.Core.Bool.{not}
 use mathlib.Core.List.{List, [], _++_}
 use Prim.Native.Nat.{ℕ, _+_, _*_, _≤_, _<_}
 use native.Mathlib.Omega.{arith}
 use lib.Dec.{T, eqb, eqb→eq, ltb, ltb→lt}
 use lib.ListN.{length, getD, take, drop}
 use lib.Seq.{take-at}
-use borrow.Author.Tests.{le-ltb, eq-eqb, not-false}
+use borrow.Author.Tests.{le-ltb, eq-eqb}
 use Rattle.bits.specs.Bits.{bitOf, bytesOf}
 use Rattle.bits.specs.Lists.{tabulate, written, firstAbove}
 use Rattle.bits.proofs.BitLaws.{bit-binary, bytes-bits}
 use Rattle.bits.proofs.ListLaws.{length-tabulate, getD-tabulate, tabulate-ext, first-none}
 use Rattle.refusal.specs.Report.{done, number}
-use Rattle.refusal.proofs.OutcomeLaws.{NoneApplies, reported-done, outcome-good, none-outcome}
+use Rattle.refusal.proofs.OutcomeLaws.{outcome-good, none-outcome}
 use Rattle.card.specs.Card.{cardOf}
-use Rattle.card.specs.Entries.{defined}
-use Rattle.card.proofs.CardLaws.{defined-small}
+use Rattle.card.proofs.GateLaws.{gate-served}
 use Rattle.interleaver.specs.Source.{codedBits}
 use Rattle.card.proofs.ModeLaws.{defined-half}
 use Rattle.interleaver.proofs.InterleaverLaws.{coded-half}
@@ -31,28 +30,21 @@ use Rattle.bands.specs.Bands.{bandCount}
 use Rattle.diversity.specs.Lanes.{laneOf, carrierCount, itemCount, fewestCopies}
 use Rattle.diversity.proofs.BandLaws.{copies-range, band-survives, band-undecides}
 use Rattle.bits.proofs.RangeLaws.{at-each}
-use Rattle.frame_control.specs.Entries.{bandOf, tapsOf, frameRows, wordRows, sentItem, send, decidedBit, itemRows, read}
+use Rattle.frame_control.specs.Entries.{bandOf, tapsOf, wordRows, sentItem, sendBy, send, decidedBit, itemRows, readBy, read}
 use Rattle.frame_control.specs.Words.{GoodCard, Word, made}
-
--- what a good card says
-good-rows : (card : List ℕ) → GoodCard card → NoneApplies (frameRows card)
-good-rows card good = reported-done (frameRows card) (cardOf card) (cardOf card) good .0
+use Rattle.frame_control.proofs.EntryLaws.{send-passed, read-passed}
 
 pub good-band : (card : List ℕ) → GoodCard card → bandOf card < bandCount
-good-band card good =
-    let (long, (version, (mode, (kind, none)))) = good-rows card good in
-    let c = cardOf card in
-    omega (arith, defined-small (c .band) (c .kind) (c .rate) (c .modulation) (not-false (defined c) mode) .0)
+good-band card good = gate-served 0 0 card (cardOf card) good .band-lt
 
 module _ (card word : List ℕ) (good : GoodCard card) (is : Word word) where
   -- sending a word under a good card
   pub send-good : (out : List ℕ) → itemCount (bandOf card) ≤ length out
       → send card word out ≡ record { report = done (itemCount (bandOf card)); out = written (itemCount (bandOf card)) (sentItem (bandOf card) (tapsOf card) word) out }
-  unfolding send
+  unfolding sendBy
   send-good out room =
-      let (long, (version, (mode, (kind, none)))) = good-rows card good in
-      outcome-good {A = ℕ} (frameRows card ++ wordRows (bandOf card) word out) out _ _
-      (long, (version, (mode, (kind, (ap not (eq-eqb (length word) 16 (is .long)), (le-ltb (length out) (itemCount (bandOf card)) room, tt))))))
+      send-passed card word out (cardOf card) good
+      ∙ outcome-good {A = ℕ} (wordRows (bandOf card) word out) out _ _ (ap not (eq-eqb (length word) 16 (is .long)), (le-ltb (length out) (itemCount (bandOf card)) room, tt))
 
   -- what was made, whatever lies beyond
   pub made-is : (out : List ℕ) → itemCount (bandOf card) ≤ length out → made card word out ≡ tabulate (itemCount (bandOf card)) (sentItem (bandOf card) (tapsOf card) word)
@@ -68,24 +60,12 @@ legal-none N items damage = sym (first-none 2 items (λ k h. omega (arith, damag
 -- reading legal items of the right number under a good card comes to the decided bits
 pub read-good : (card items out : List ℕ) → GoodCard card → Damage (itemCount (bandOf card)) items → 16 ≤ length out
     → read card items out ≡ recovered 0 0 (tapsOf card) (decidedBit (bandOf card) items) out
-unfolding read recovered
+unfolding readBy recovered
 read-good card items out good damage room =
-    let (long, (version, (mode, (kind, none)))) = good-rows card good in
-    none-outcome {A = ℕ} (frameRows card ++ itemRows (bandOf card) items out) (recoverRows 0 0 (tapsOf card) (decidedBit (bandOf card) items)) out 16 (bytesOf 16 (dataBit 0 0 (decidedBit (bandOf card) items)) ++ drop 16 out) (
-      long,
-      (
-        version,
-        (
-          mode,
-          (
-            kind,
-            (
-              ap not (eq-eqb (length items) (itemCount (bandOf card)) (damage .long)),
-              (le-ltb (length out) 16 room, (le-ltb (firstAbove 2 items) (length items) (omega (arith, legal-none _ items damage)), tt)),
-            ),
-          ),
-        ),
-      ),
+    read-passed card items out (cardOf card) good
+    ∙ none-outcome {A = ℕ} (itemRows (bandOf card) items out) (recoverRows 0 0 (tapsOf card) (decidedBit (bandOf card) items)) out 16 (bytesOf 16 (dataBit 0 0 (decidedBit (bandOf card) items)) ++ drop 16 out) (
+      ap not (eq-eqb (length items) (itemCount (bandOf card)) (damage .long)),
+      (le-ltb (length out) 16 room, (le-ltb (firstAbove 2 items) (length items) (omega (arith, legal-none _ items damage)), tt)),
     )
 
 -- ---- what comes back

@@ -1,5 +1,5 @@
 -- What sending and reading a frame control answer and leave in lent memory, for all inputs, by the rows of paper 01's table.
--- Assumes nothing.
+-- They serve kind 0. Assumes nothing.
 use mathlib.Core.Bool.{not}
 use mathlib.Core.List.{List, [], _∷_, _++_}
 use Prim.Native.Nat.{ℕ}
@@ -7,10 +7,10 @@ use lib.Dec.{eqb, ltb}
 use lib.ListN.{length, drop}
 use Rattle.bits.specs.Bits.{bitOf, bytesOf}
 use Rattle.bits.specs.Lists.{written, firstAbove}
-use Rattle.refusal.specs.declared.Refusal.the-variants.{Mode, Length, Room, Item}
+use Rattle.refusal.specs.declared.Refusal.the-variants.{Length, Room, Item}
 use Rattle.refusal.specs.Outcome.{Row, row, Outcome, outcome}
 use Rattle.card.specs.Card.{cardOf}
-use Rattle.card.specs.Entries.{cardRows}
+use Rattle.card.specs.Gate.{gateRows}
 use Rattle.fec.specs.Coding.{codedBit}
 use Rattle.fec.specs.Recovery.{dataBit, recoverRows}
 use Rattle.votes.specs.Votes.{carries, decided}
@@ -22,10 +22,6 @@ bandOf card = cardOf card .band
 
 abbrev pub tapsOf : List ℕ → ℕ
 tapsOf card = cardOf card .taps
-
--- the rows about the card: those of every entry, and 3 for a kind that is not frame control
-abbrev pub frameRows : List ℕ → List Row
-frameRows card = cardRows card ++ (row (not (eqb (cardOf card .kind) 0)) Mode ∷ [])
 
 -- ---- sending
 
@@ -43,7 +39,7 @@ sendBy band taps word out = outcome (wordRows band word out) out (itemCount band
 
 unfoldable pub send : List ℕ → List ℕ → List ℕ → Outcome ℕ (List ℕ)
 send card word out =
-    outcome (frameRows card ++ wordRows (bandOf card) word out) out (itemCount (bandOf card)) (written (itemCount (bandOf card)) (sentItem (bandOf card) (tapsOf card) word) out)
+    outcome (gateRows 0 0 card ++ wordRows (bandOf card) word out) out (itemCount (bandOf card)) (written (itemCount (bandOf card)) (sentItem (bandOf card) (tapsOf card) word) out)
 
 -- ---- reading
 
@@ -68,4 +64,4 @@ readBy band taps items out = outcome (readRows band taps items out) out 16 (byte
 
 unfoldable pub read : List ℕ → List ℕ → List ℕ → Outcome ℕ (List ℕ)
 read card items out =
-    outcome (frameRows card ++ readRows (bandOf card) (tapsOf card) items out) out 16 (bytesOf 16 (dataBit 0 0 (decidedBit (bandOf card) items)) ++ drop 16 out)
+    outcome (gateRows 0 0 card ++ readRows (bandOf card) (tapsOf card) items out) out 16 (bytesOf 16 (dataBit 0 0 (decidedBit (bandOf card) items)) ++ drop 16 out)

@@ -5,14 +5,14 @@ use mathlib.Core.Path.{_≡_}
 use Prim.Native.Nat.{ℕ, _<_}
 use lib.ListN.{length, getD, take}
 use Rattle.refusal.specs.Report.{done}
-use Rattle.refusal.specs.Outcome.{reported}
 use Rattle.card.specs.Card.{cardOf}
+use Rattle.card.specs.Gate.{gate}
 use Rattle.diversity.specs.Lanes.{itemCount}
-use Rattle.frame_control.specs.Entries.{bandOf, frameRows, send}
+use Rattle.frame_control.specs.Entries.{bandOf, send}
 
 -- a good card (paper 01's term): no cause about cards refuses it at the frame-control entries
 abbrev pub GoodCard : List ℕ → Type 0
-GoodCard card = reported (frameRows card) (cardOf card) ≡ done (cardOf card)
+GoodCard card = gate 0 0 card ≡ done (cardOf card)
 
 -- a word: sixteen bytes
 pub record Word (word : List ℕ) : Type 0 where

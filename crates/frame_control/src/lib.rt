@@ -10,26 +10,8 @@ use refusal::Refusal;
 ghost use mathlib.Core.Path.{_≡_};
 ghost use Prim.Native.Nat.{_<_};
 ghost use Rattle.refusal.specs.Report.{answer};
-ghost use Rattle.refusal.specs.Outcome.{reported};
-ghost use Rattle.card.specs.Card.{cardOf};
-ghost use Rattle.card.specs.Entries.{cardRead};
 ghost use Rattle.bands.specs.Bands.{bandCount};
-ghost use Rattle.frame_control.specs.Entries.{frameRows, sendBy, send as sendOutcome, readBy, read as readOutcome};
-
-// The card in some bytes, where it is one of frame control.
-fn frame_card(card: &[u8]) -> CardRead
-    ensures { λ r. ⌜ cardRead r ≡ reported (frameRows (now (card .entry))) (cardOf (now (card .entry))) ⌝ }
-{
-    match card::read_card(card) {
-        CardRead::Refused(r) => CardRead::Refused(r),
-        CardRead::Good(c) => {
-            if c.kind != 0 {
-                return CardRead::Refused(Refusal::Mode);
-            }
-            CardRead::Good(c)
-        }
-    }
-}
+ghost use Rattle.frame_control.specs.Entries.{sendBy, send as sendOutcome, readBy, read as readOutcome};
 
 // The items of a word.
 fn send_by(band: usize, taps: u16, word: &[u8], out: &mut [u8]) -> Answer
@@ -55,7 +37,7 @@ pub fn send(card: &[u8], word: &[u8], out: &mut [u8]) -> Answer
     ensures answer { λ r. ⌜ answer r ≡ sendOutcome (now (card .entry)) (now (word .entry)) (now (out .entry)) .report ⌝ }
     ensures items { λ _. ⌜ now (out .exit) ≡ sendOutcome (now (card .entry)) (now (word .entry)) (now (out .entry)) .out ⌝ }
 {
-    match frame_card(card) {
+    match card::served_card(card, 0, 0) {
         CardRead::Refused(r) => Answer::Refused(r),
         CardRead::Good(c) => send_by(c.band as usize, c.taps as u16, word, out),
     }
@@ -86,7 +68,7 @@ pub fn read(card: &[u8], items: &[u8], out: &mut [u8]) -> Answer
     ensures answer { λ r. ⌜ answer r ≡ readOutcome (now (card .entry)) (now (items .entry)) (now (out .entry)) .report ⌝ }
     ensures word { λ _. ⌜ now (out .exit) ≡ readOutcome (now (card .entry)) (now (items .entry)) (now (out .entry)) .out ⌝ }
 {
-    match frame_card(card) {
+    match card::served_card(card, 0, 0) {
         CardRead::Refused(r) => Answer::Refused(r),
         CardRead::Good(c) => read_by(c.band as usize, c.taps as u16, items, out),
     }

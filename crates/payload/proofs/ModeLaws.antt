@@ -16,10 +16,10 @@ use Rattle.refusal.specs.Outcome.{Row, row, Outcome, firstApplicable}
 use Rattle.refusal.proofs.OutcomeLaws.{outcomeBy, done-same, reported-done, refused-outcome, passed-outcome, report-of}
 use Rattle.card.specs.declared.Card.{Card}
 use Rattle.card.specs.Card.{cardOf}
-use Rattle.card.specs.Modes.{blockBytes, Defined}
-use Rattle.card.specs.Entries.{definedMode, defined, cardRows, readCard}
-use Rattle.card.proofs.FieldLaws.{card-read}
-use Rattle.card.proofs.CardLaws.{defined-small}
+use Rattle.card.specs.Modes.{blockBytes, definedMode, defined, Defined}
+use Rattle.card.specs.Entries.{cardRows, readCard}
+use Rattle.card.proofs.GateLaws.{card-read}
+use Rattle.card.proofs.ModeLaws.{defined-mode}
 use Rattle.interleaver.specs.Source.{codedBits}
 use Rattle.interleaver.proofs.InterleaverLaws.{coded-half, coded-high, coded-le}
 use Rattle.payload_layout.specs.Layouts.{layoutOf, layoutFor, items, mostItems, Laid}
@@ -64,23 +64,13 @@ module _ (card : List ℕ) where
       let is = card-read card c e in
       passed c e ∙ rw (ne-eqb (cardOf card .kind) 0 (λ z. k (ap (λ (d : Card). d .kind) is ∙ z))) (ap {B = Report Card} (λ (d : Card). done d) (sym is))
 
--- rate 1 goes only with kind 4
-defined-rate : (band kind rate modulation : ℕ) → definedMode band kind rate modulation ≡ true → rate ≡ 1 → kind ≡ 4
-unfolding definedMode
-defined-rate band kind rate modulation e one =
-    let sized = leb band 1 && leb kind 4 && leb modulation 2 in
-    let rates = eqb rate 0 || eqb rate 1 && eqb kind 4 in
-    let four = both (sized && rates) (not (eqb kind 0) || eqb modulation 1) e .0 in
-    let high : (eqb 1 0 || eqb 1 1 && eqb kind 4) ≡ true = subst (λ (r : ℕ). (eqb r 0 || eqb r 1 && eqb kind 4) ≡ true) one (both sized rates four .1) in
-    eqb-true kind 4 high
-
 defined-served : (band kind rate modulation : ℕ) → definedMode band kind rate modulation ≡ true → eqb kind 0 ≡ false → Served band kind rate modulation
 defined-served band kind rate modulation mode payload =
-    let (bands, kinds, rates, modulations) = defined-small band kind rate modulation mode in
+    let (kinds, bands, modulations) = defined-mode band kind rate modulation mode in
     record {
       band-lt = omega arith;
       payload = some kind payload;
-      defined = record { kind-lt = omega arith; rate-lt = omega arith; high-rate = defined-rate band kind rate modulation mode };
+      defined = kinds;
       modulation-lt = omega arith;
     }
   where

@@ -16,8 +16,8 @@ use Rattle.refusal.specs.Report.{done, refused}
 use Rattle.refusal.specs.Outcome.{Outcome}
 use Rattle.refusal.proofs.OutcomeLaws.{outcome-good}
 use Rattle.card.specs.Card.{cardOf}
-use Rattle.card.specs.Modes.{blockBytes}
-use Rattle.card.specs.Entries.{versioned, defined}
+use Rattle.card.specs.Modes.{blockBytes, defined}
+use Rattle.card.specs.Entries.{versioned}
 use Rattle.scrambler.specs.Scrambler.{scrambled}
 use Rattle.scrambler.proofs.ScramblerLaws.{scrambled-at, scrambled-twice, block-binary}
 use Rattle.interleaver.specs.Source.{codedBits}
