@@ -1,21 +1,23 @@
 #!/usr/bin/env bash
 # The main job in one command: proves and builds the programs, prints a job card, sends a word as a frame control on band 0, loses
 # carriers and reads the word back, until one carrier too many is lost.
-set -eu
+set -eu -o pipefail
 cd "$(dirname "$0")/.."
 if ! command -v rt > /dev/null; then
   echo 'quickstart: `rt` is not on the path; install the Rattle toolchain first' >&2
   exit 1
 fi
 programs=$PWD/target/bin
-work=$(mktemp -d)
-trap 'rm -rf "$work"' EXIT
+work=$PWD/target/quickstart
+rm -rf "$work"
+mkdir -p "$work"
 
-echo 'Proving and building the programs; from nothing this takes some minutes.'
-if ! rt check print_card encode decode > "$work/log" 2>&1; then
+echo 'Proving and building the programs; from nothing this takes some minutes. A line for each crate that is proved:'
+if ! rt check print_card encode decode 2>&1 | tee "$work/log" | sed -un 's/^rt: \(.* proved\)/  \1/p'; then
   tail -n 20 "$work/log" >&2
   exit 1
 fi
+printf '\nThe programs are in target/bin. All files below stay in target/quickstart, for you to change and try again.\n'
 cd "$work"
 
 show() {
@@ -49,7 +51,7 @@ for offset in 0 192 160 96; do
   done
   symbol=$((symbol + 1))
 done
-printf '\nCoded bit 27 rides %d carriers. Both items of %d of them are marked as lost:\n' "${#carriers[@]}" "$((${#carriers[@]} - 1))"
+printf '\nCoded bit 27 is carried by %d carriers. Both items of %d of them are marked as lost:\n' "${#carriers[@]}" "$((${#carriers[@]} - 1))"
 for carrier in "${carriers[@]:1}"; do
   lose "$carrier"
 done

@@ -1,6 +1,6 @@
 #!/usr/bin/env bash
-# The programs `encode` and `decode` write what the same programs over the reference write, in every mode and on bad files.
-# They are taken from target/bin, where `rt check` or `rt ci` put them.
+# The programs `encode`, `decode` and `print_card` write what the same programs over the reference write, in every mode, on bad files
+# and on refused cards, each with a stack of 128 KB. They are taken from target/bin, where `rt check` or `rt ci` put them.
 set -eu
 cd "$(dirname "$0")/.."
 cargo build --quiet --release --offline --manifest-path reference/Cargo.toml
@@ -10,18 +10,26 @@ work=$(mktemp -d)
 trap 'rm -rf "$work"' EXIT
 cd "$work"
 runs=0
+: > input
 
-# card BAND KIND RATE MODULATION TAPS: a card of version 1.
+# card BAND KIND RATE MODULATION TAPS [BITS]: a card of version 1, with some of its first 24 bits turned.
 card() {
-  local bits=$((1 << 20 | $1 << 18 | $2 << 15 | $3 << 14 | $4 << 12 | $5 << 1))
+  local bits=$(((1 << 20 | $1 << 18 | $2 << 15 | $3 << 14 | $4 << 12 | $5 << 1) ^ ${6-0}))
   printf '%b' "$(printf '\\x%02x\\x%02x\\x%02x' $((bits >> 16)) $((bits >> 8 & 255)) $((bits & 255)))"
   printf '\001\002\003\004\005\006\007\010'
 }
 
-# same PROGRAM CARD FILE: what both write goes to `written`.
+# core PROGRAM ARGUMENT..: runs a program, its lines on standard error go to `told`.
+core() {
+  local program=$1
+  shift
+  (ulimit -S -s 128 && "$core/$program" "$@") 2> told
+}
+
+# same PROGRAM ARGUMENT..: what both write on standard output goes to `written`.
 same() {
-  "$core/$1" "$2" "$3" > written
-  "$reference" "$1" "$2" "$3" > expected
+  core "$@" > written < input
+  "$reference" "$@" > expected < input
   cmp written expected
   runs=$((runs + 1))
 }
@@ -30,6 +38,8 @@ same() {
 mode() {
   card "$2" "$3" "$4" "$5" 1095 > card
   seq 1 400 | head -c "$1" > block
+  cp card input
+  same print_card
   same encode card block
   cp written items
   same decode card items
@@ -54,22 +64,51 @@ for band in 0 1 2; do
   mode 520 $band 4 1 1
 done
 
-# Files that are missing, empty, a folder or too long.
+# Files that are missing, empty, a folder or too long. Of a missing one standard error says so.
 card 0 0 0 1 1095 > card
 seq 1 400 | head -c 16 > block
 mkdir folder
 head -c 12 /dev/zero > long
 for file in missing folder /dev/null long; do
-  same encode $file block
-  same encode card $file
-  same decode $file block
-  same decode card $file
+  for program in encode decode; do
+    for files in "$file block" "card $file"; do
+      same "$program" $files
+      if [ "$file" = missing ]; then
+        grep -q '^missing: No such file' told
+      else
+        [ ! -s told ]
+      fi
+    done
+  done
 done
 
-for program in encode decode; do
-  "$core/$program" > written
-  [ "$(wc -l < written)" -eq 1 ]
-  grep -q "^usage: $program CARD " written
+# Cards that are too short or too long, of every mode that fits its bits, with another version and with a spare bit.
+for length in 0 1 10 12 13 16 17 40; do
+  head -c "$length" /dev/zero > input
+  same print_card
+done
+for kind in 0 1 2 3 4 5 6 7; do
+  for mode in '0 0' '0 1' '0 2' '0 3' '1 0' '1 1' '1 2' '1 3'; do
+    card 1 $kind $mode 2047 > input
+    same print_card
+  done
+done
+for turned in 1 $((1 << 20)) $((3 << 20)) $((14 << 20)) $((2 << 18)) $((3 << 18)); do
+  card 0 4 1 1 0 "$turned" > input
+  same print_card
+done
+
+# How to call a program: on standard output where it was asked for, on standard error where it was called in another way.
+for call in 'encode -h' 'encode --help' 'decode -h' 'decode --help' 'print_card -h' 'print_card --help'; do
+  core $call > written
+  grep -q "^usage: ${call% *} " written
+  [ ! -s told ]
+  runs=$((runs + 1))
+done
+for call in encode 'encode card' 'encode card block block' decode 'decode card' 'print_card card'; do
+  core $call > written < input
+  grep -q "^usage: ${call%% *} " told
+  [ ! -s written ]
   runs=$((runs + 1))
 done
 printf 'programs: %d runs agree\n' "$runs"

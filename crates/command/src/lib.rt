@@ -1,13 +1,14 @@
-// What the programs share: files that arguments name, and numbers, answers and refusals on standard output.
+// What the programs share: how they are called, files that arguments name, and numbers, answers and refusals on standard output.
 //
 // Internal: nothing here is a public entry. What the system's calls do is assumed, as in every program, and no contract can say what is
 // read or written.
+use libc::STDERR_FILENO;
 use libc::STDOUT_FILENO;
 use refusal::Answer;
 use refusal::Refusal;
 ghost use mathlib.Core.Path.{_≡_};
-ghost use Prim.Native.Nat.{_≤_};
 ghost use lib.ListN.{length};
+ghost use Rattle.io.specs.Counts.{Counts};
 ghost use Rattle.refusal.specs.Report.{answer, number};
 ghost use Rattle.job.specs.Jobs.{refusalLines};
 
@@ -23,15 +24,41 @@ pub fn put_first(bytes: &[u8], n: usize) {
     }
 }
 
+// Whether the first argument asks how to call the program.
+fn asks_help() -> bool {
+    let mut word = io::buffer();
+    let n = os::arg(1, &mut word);
+    if check::same(&word[..n], b"-h") {
+        return true;
+    }
+    check::same(&word[..n], b"--help")
+}
+
+// Whether the program was called with so many arguments. Where it was not, `usage` is written: on standard output if that was asked
+// for by `-h` or `--help`, and on standard error otherwise.
+pub fn called_with(arguments: usize, usage: &[u8]) -> bool {
+    if asks_help() {
+        put(usage);
+        return false;
+    }
+    let count = os::arg_count();
+    if count < 1 || count - 1 != arguments {
+        io::write_all(STDERR_FILENO, usage);
+        return false;
+    }
+    true
+}
+
 // The start of the file that argument i names, into `buf`: how many bytes there are. A file that is missing or cannot be opened counts
-// as empty.
+// as empty, and standard error says why.
 pub fn read_file(i: usize, buf: &mut [u8]) -> usize
-    ensures { λ n. ⌜ n ≤ length (now (buf .exit)) ⌝ }
+    ensures { λ n. ⌜ Counts n (now (buf .exit)) ⌝ }
 {
     let mut path = io::buffer();
     let length = os::arg(i, &mut path);
     let fd = os::open_read(&path[..length]);
     if fd < 0 {
+        os::fail(&path[..length]);
         return 0;
     }
     let n = io::read_full(fd, buf);

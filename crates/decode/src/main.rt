@@ -1,7 +1,7 @@
 // Writes the word or the block of received items as a line of hex: `decode CARD ITEMS`, both names of files, an item a byte. A refusal
 // is written as two lines, its number and what comes with it.
 //
-// Of a file the first 65,536 bytes are read, which is more than any entry takes.
+// Of a file the first 16,384 bytes are read, which is more than any entry takes.
 use refusal::Answer;
 
 // The first n bytes as a line of hex.
@@ -26,13 +26,15 @@ fn decode(card: &[u8], items: &[u8]) {
 }
 
 fn main() {
-    if os::arg_count() < 2 {
-        command::put(b"usage: decode CARD ITEMS\n");
+    if !command::called_with(
+        2,
+        b"usage: decode CARD ITEMS\nWrites the word or the block that some items decide, a byte each, as a line of hex.\n",
+    ) {
         return;
     }
-    let mut card = io::large_buffer();
+    let mut card = [0u8; 16384];
     let card_len = command::read_file(1, &mut card);
-    let mut items = io::large_buffer();
+    let mut items = [0u8; 16384];
     let items_len = command::read_file(2, &mut items);
     decode(&card[..card_len], &items[..items_len]);
 }

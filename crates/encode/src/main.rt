@@ -1,7 +1,7 @@
 // Writes the items of a word or a block, a byte an item: `encode CARD BLOCK`, both names of files. A refusal is written as two lines,
 // its number and what comes with it.
 //
-// Of a file the first 65,536 bytes are read, which is more than any entry takes.
+// Of a file the first 16,384 bytes are read, which is more than any entry takes.
 use refusal::Answer;
 
 // The items of some bytes under a card.
@@ -16,13 +16,15 @@ fn encode(card: &[u8], block: &[u8]) {
 }
 
 fn main() {
-    if os::arg_count() < 2 {
-        command::put(b"usage: encode CARD BLOCK\n");
+    if !command::called_with(
+        2,
+        b"usage: encode CARD BLOCK > ITEMS\nWrites the items of a word or a block, a byte each, by the card's kind.\n",
+    ) {
         return;
     }
-    let mut card = io::large_buffer();
+    let mut card = [0u8; 16384];
     let card_len = command::read_file(1, &mut card);
-    let mut block = io::large_buffer();
+    let mut block = [0u8; 16384];
     let block_len = command::read_file(2, &mut block);
     encode(&card[..card_len], &block[..block_len]);
 }
