@@ -16,3 +16,7 @@ g++ -std=c++11 "${strict[@]}" "$work/header.cpp" "$library" -o "$work/header"
 nm -g --defined-only "$library" | awk '$2 == "T" && $3 ~ /^hplc_/ { print $3 }' | sort > "$work/exported"
 grep -oE '\bhplc_[a-z_]+\(' include/hplc.h | tr -d '(' | sort -u > "$work/declared"
 diff "$work/exported" "$work/declared"
+# The library needs memcpy and memset, and nothing else.
+if nm --undefined-only "$library" | awk '$1 == "U" { print $2 }' | grep -vxE 'memcpy|memset'; then
+  exit 1
+fi

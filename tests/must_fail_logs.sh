@@ -21,6 +21,16 @@ judge() {
       if (type ~ /^Rattle·[^ ]*\.Lts\.[A-Z]/) { sub(/ .*/, "", type); return type }
       return ""
     }
+    # Whether these words open the message of a fact that fails.
+    function fact(words) {
+      return words ~ /^it is not proved that/ ||
+        words ~ /^(as printed|computed as far as they go), the two types / ||
+        words ~ /^expected type `/ ||
+        words ~ /^`omega`: the (goal|part `[^`]*` of the goal) does not follow / ||
+        words ~ /^`search`: no proof of `/ ||
+        words ~ /^give a proof of that as the last argument, / ||
+        words ~ /^`cc`: the equations do not join /
+    }
     # The text in backquotes that follows some words.
     function quoted(words,    at, rest) {
       at = index(block, words " `")
@@ -28,13 +38,15 @@ judge() {
       rest = substr(block, at + length(words) + 2)
       return substr(rest, 1, index(rest, "`") - 1)
     }
+    # A function without a proof of its own has a note in place of an error.
+    !found && /^note: [^ ]*: it is not proved that / { found = 1; head = "it is not proved that"; next }
     !found && (at = index($0, ": error: ")) { found = 1; head = block = substr($0, at + 9); next }
     found && /^  / { sub(/^ +/, ""); block = block " " $0; next }
     found { exit }
     END {
       sub(/^`[^`]*`: /, "", head)
       if (!found) { print "no error in its log"; exit }
-      if (head !~ /^(as printed|computed as far as they go), the two types |^expected type `|^`omega`: the (goal|part `[^`]*` of the goal) does not follow |^`search`: no proof of `|^give a proof of that as the last argument, |^`cc`: the equations do not join /) {
+      if (!fact(head)) {
         print "its first error is no failed fact: " substr(head, 1, 200)
         exit
       }

@@ -8,7 +8,7 @@ awk 'BEGIN {
 
   print "<svg xmlns=\"http://www.w3.org/2000/svg\" viewBox=\"0 0 900 620\" font-family=\"sans-serif\" font-size=\"13\">"
   print "<rect width=\"900\" height=\"620\" fill=\"#ffffff\"/>"
-  text(20, 30, 18, "start", "Coded bit " bit " on band 0: one mark for each carrier that it rides")
+  text(20, 30, 18, "start", "Coded bit " bit " on band 0: one mark for each carrier that holds it")
   text(20, 50, 13, "start", "A carrier is one of " places " sub-carriers (" first " to " first + places - 1 ") in one of " symbols " symbols. Above each mark: its sub-carrier.")
 
   for (s = 1; s <= symbols; s++) {
@@ -26,7 +26,7 @@ awk 'BEGIN {
       copies++
     }
   }
-  text(left, 345, 13, "start", "Blue rides lane I, orange lane Q. There are " copies " carriers in all.")
+  text(left, 345, 13, "start", "Blue is lane I, orange lane Q. There are " copies " carriers in all.")
 
   text(20, 390, 18, "start", "A one was sent. What the " copies " copies vote, after damage to carriers")
   text(20, 410, 13, "start", "1: as sent.  0: altered.  2: lost, no vote.  The word is safe while twice the altered plus the lost is below " copies ".")
