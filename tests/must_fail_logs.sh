@@ -24,7 +24,7 @@ judge() {
     # Whether these words open the message of a fact that fails.
     function fact(words) {
       return words ~ /^it is not proved that/ ||
-        words ~ /^(as printed|computed as far as they go), the two types / ||
+        words ~ /^(as printed|computed as far as they go), the two (types|values|sides) / ||
         words ~ /^expected type `/ ||
         words ~ /^`omega`: the (goal|part `[^`]*` of the goal) does not follow / ||
         words ~ /^`search`: no proof of `/ ||
@@ -38,7 +38,8 @@ judge() {
       rest = substr(block, at + length(words) + 2)
       return substr(rest, 1, index(rest, "`") - 1)
     }
-    # A function without a proof of its own has a note in place of an error.
+    # An error that only follows from another is passed over; a function without a proof of its own has a note in place of an error.
+    !found && / was not admitted \(.*\), so this cannot be checked$/ { next }
     !found && /^note: [^ ]*: it is not proved that / { found = 1; head = "it is not proved that"; next }
     !found && (at = index($0, ": error: ")) { found = 1; head = block = substr($0, at + 9); next }
     found && /^  / { sub(/^ +/, ""); block = block " " $0; next }
