@@ -13,10 +13,10 @@ use Rattle.bits.specs.Lists.{tabulate}
 use Rattle.bits.proofs.ListLaws.{getD-tabulate}
 use Rattle.bits.proofs.NumberLaws.{lt-cases}
 use Rattle.constituent.specs.Encoder.{next, parity, stateAt}
-use Rattle.constituent.specs.Pairs.{pairAt, pairIn, fourFrom}
-use Rattle.constituent.specs.Bytes.{parities, byteWord, Doubling, ByBytes, StatesBy, ParitiesBy}
-use Rattle.constituent.specs.Passes.{stateBy}
-use Rattle.constituent.proofs.RingLaws.{state-lt, state-ext}
+use Rattle.constituent.specs.Pairs.{pairAt}
+use Rattle.constituent.specs.Loops.Bytes.{parities, byteWord, Doubling, ByBytes, StatesBy, ParitiesBy, pairIn, fourFrom}
+use Rattle.constituent.specs.Loops.Passes.{stateBy}
+use Rattle.constituent.proofs.StateLaws.{state-lt, state-ext}
 use Rattle.constituent.proofs.PairLaws.{pair-in-byte}
 use Rattle.constituent.proofs.LinearLaws.{word-parts, word-doubled, few-parities}
 

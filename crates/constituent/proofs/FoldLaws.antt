@@ -2,9 +2,9 @@
 use mathlib.Core.Path.{_≡_, refl, sym, ap, ap₂, _∙_}
 use mathlib.Core.List.{List}
 use Prim.Native.Nat.{ℕ, zero, suc, _+_, _-_, _*_, _/_, _%_, _^_, _≤_, _<_}
-use native.Mathlib.Nat.{zero-mul, zero-div, add-suc, add-zero}
+use native.Mathlib.Nat.{zero-div, add-suc, add-zero}
 use native.Mathlib.Omega.{arith}
-use lib.Bits.{bitXor, xor-zero-l, xor-zero-r}
+use lib.Bits.{bitXor, xor-zero-l}
 use lib.Dec.{lit<}
 use lib.ListN.{length, getD, take, drop, replicate, length-take, length-drop, length-replicate, List·getD-eq-default}
 use lib.Seq.{length-take-le, getD-take, getD-drop}
@@ -15,10 +15,11 @@ use Rattle.bits.proofs.NumberLaws.{lt-cases}
 use Rattle.bits.proofs.RangeLaws.{agree}
 use Rattle.constituent.specs.declared.States.{States}
 use Rattle.constituent.specs.Pairs.{pairAt}
-use Rattle.constituent.specs.Encoder.{plus, zeroInputStep, next, stateAt}
-use Rattle.constituent.specs.Passes.{stateBy, Ended, SameEnd}
-use Rattle.constituent.proofs.RingLaws.{steps, steps-lt, state-lt, state-plus, state-ext, zero-plus}
-use Rattle.constituent.proofs.PairLaws.{pair-read, pair-lt}
+use Rattle.constituent.specs.Encoder.{zeroInputStep, next, stateAt}
+use Rattle.constituent.specs.Loops.Passes.{stateBy, Ended, SameEnd}
+use Rattle.constituent.proofs.StateLaws.{state-lt, state-ext}
+use Rattle.constituent.proofs.RingLaws.{steps, steps-lt, idle, state-plus}
+use Rattle.constituent.proofs.PairLaws.{pair-read}
 use Rattle.constituent.proofs.LinearLaws.{in-sums, state-linear}
 use Rattle.constituent.proofs.ByteLaws.{state-append}
 
@@ -43,17 +44,6 @@ rounds (suc q) s h =
 
 more-rounds : (m q s : ℕ) → s < 8 → steps (m + q * 7) s ≡ steps m s
 more-rounds m q s h = steps-append m (q * 7) s ∙ rounds q (steps m s) (steps-lt m s h)
-
-next-idle : (taps s : ℕ) → next taps s 0 ≡ zeroInputStep s
-unfolding next plus
-next-idle taps s = simp zero-mul (xor-zero-r (zeroInputStep s))
-
--- pairs of zeros are no input
-idle : (taps : ℕ) (p : ℕ → ℕ) (s n : ℕ) → ((k : ℕ) → k < n → p k ≡ 0) → stateAt taps p s n ≡ steps n s
-unfolding stateAt steps
-idle taps p s zero h = refl
-idle taps p s (suc n) h =
-    ap₂ (next taps) (idle taps p s n (λ k l. h k (omega arith))) (h n (omega arith)) ∙ next-idle taps (steps n s)
 
 -- ---- bytes
 
@@ -106,13 +96,12 @@ module _ (taps at w end : ℕ) (bytes sums chunk next : List ℕ) (start : state
       ∙ sym (ap (λ (k : ℕ). steps k so-far) d ∙ more-rounds (4 * (end - 56)) (4 * (8 - q)) so-far far-lt)
 
   bytes-end : stateBy taps bytes 0 (4 * (at + w)) ≡ bitXor (stateBy taps chunk 0 (4 * w)) (steps (4 * w) so-far)
-  unfolding plus
   bytes-end =
       let e : 4 * (at + w) ≡ 4 * at + 4 * w = omega arith in
       ap (stateBy taps bytes 0) e
       ∙ state-append taps (pairAt (bitOf bytes)) 0 (4 * at) (4 * w)
       ∙ state-ext taps (λ j. pairAt (bitOf bytes) (4 * at + j)) (pairAt (bitOf chunk)) so-far (4 * w) same
-      ∙ ap (λ (s : ℕ). stateAt taps (pairAt (bitOf chunk)) s (4 * w)) (sym (zero-plus so-far))
+      ∙ ap (λ (s : ℕ). stateAt taps (pairAt (bitOf chunk)) s (4 * w)) (sym (xor-zero-l so-far))
       ∙ state-plus taps (pairAt (bitOf chunk)) 0 so-far (lit< tt) far-lt (4 * w)
     where
       same : (k : ℕ) → k < 4 * w → pairAt (bitOf bytes) (4 * at + k) ≡ pairAt (bitOf chunk) k
@@ -126,7 +115,7 @@ module _ (taps at w end : ℕ) (bytes sums chunk next : List ℕ) (start : state
 
   pub folded : stateBy taps next 0 (4 * end) ≡ stateBy taps bytes 0 (4 * (at + w))
   folded =
-      state-linear taps (pairAt (bitOf chunk)) (pairAt (bitOf sums)) (pairAt (bitOf next)) (pair-lt chunk) (pair-lt sums) sum-pairs 0 0 (lit< tt) (lit< tt) (4 * end)
+      state-linear taps (pairAt (bitOf chunk)) (pairAt (bitOf sums)) (pairAt (bitOf next)) sum-pairs 0 0 (lit< tt) (lit< tt) (4 * end)
       ∙ ap₂ bitXor chunk-end sums-end
       ∙ sym bytes-end
 

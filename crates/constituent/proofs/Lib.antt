@@ -1,8 +1,9 @@
 -- What the proofs of `constituent` share, and its theorems. Assumes nothing.
-pub mod RingLaws
 pub mod PairLaws
-pub mod StepLaws
-pub mod LinearLaws
-pub mod ByteLaws
-pub mod FoldLaws
+pub mod StateLaws
+pub mod RingLaws
 pub mod PassLaws
+mod StepLaws
+mod LinearLaws
+mod ByteLaws
+mod FoldLaws

@@ -10,9 +10,8 @@ use Rattle.bits.specs.Bits.{bitAt}
 use Rattle.bits.proofs.BitLaws.{xor-assoc}
 use Rattle.bits.proofs.RangeLaws.{agree₂, agree₃}
 use Rattle.constituent.specs.Encoder.{plus, zeroInputStep, tapB1, tapB2, tapC, tapD1, tapD2, next, dot, parity, stateAt}
-use Rattle.constituent.specs.Pairs.{pairIn}
-use Rattle.constituent.specs.Bytes.{parities, byteWord}
-use Rattle.constituent.proofs.RingLaws.{linear, state-lt}
+use Rattle.constituent.specs.Loops.Bytes.{parities, byteWord, pairIn}
+use Rattle.constituent.proofs.StateLaws.{linear, state-lt}
 
 -- ---- exclusive-or
 
@@ -25,17 +24,17 @@ cross a b c d =
 
 -- ---- the step
 
-gated-high : (u v b : ℕ) → u < 4 → v < 4 → b < 8 → bitAt 1 (bitXor u v) * b ≡ bitXor (bitAt 1 u * b) (bitAt 1 v * b)
-gated-high = agree₃ 4 4 8 (λ u v b. bitAt 1 (bitXor u v) * b) (λ u v b. bitXor (bitAt 1 u * b) (bitAt 1 v * b)) tt
+-- a bit of the pair gates three bits of the taps
+gated : (k u v b : ℕ) → b < 8 → bitAt k (bitXor u v) * b ≡ bitXor (bitAt k u * b) (bitAt k v * b)
+gated k u v b h =
+    ap (λ (m : ℕ). m * b) (ap (λ (m : ℕ). m % 2) (xor-shr u v k) ∙ xor-mod (u / 2 ^ k) (v / 2 ^ k) 1)
+    ∙ agree₃ 2 2 8 (λ x y b. bitXor x y * b) (λ x y b. bitXor (x * b) (y * b)) tt (bitAt k u) (bitAt k v) b (mod-lt _ (lit< tt)) (mod-lt _ (lit< tt)) h
 
-gated-low : (u v b : ℕ) → u < 4 → v < 4 → b < 8 → bitAt 0 (bitXor u v) * b ≡ bitXor (bitAt 0 u * b) (bitAt 0 v * b)
-gated-low = agree₃ 4 4 8 (λ u v b. bitAt 0 (bitXor u v) * b) (λ u v b. bitXor (bitAt 0 u * b) (bitAt 0 v * b)) tt
-
-next-linear : (taps s d u v : ℕ) → s < 8 → d < 8 → u < 4 → v < 4 → next taps (bitXor s d) (bitXor u v) ≡ bitXor (next taps s u) (next taps d v)
+next-linear : (taps s d u v : ℕ) → s < 8 → d < 8 → next taps (bitXor s d) (bitXor u v) ≡ bitXor (next taps s u) (next taps d v)
 unfolding next plus
-next-linear taps s d u v hs hd hu hv =
+next-linear taps s d u v hs hd =
     ap₂ bitXor (linear s d hs hd)
-    (ap₂ bitXor (gated-high u v (tapB1 taps) hu hv (mod-lt _ (lit< tt))) (gated-low u v (tapB2 taps) hu hv (mod-lt _ (lit< tt)))
+    (ap₂ bitXor (gated 1 u v (tapB1 taps) (mod-lt _ (lit< tt))) (gated 0 u v (tapB2 taps) (mod-lt _ (lit< tt)))
     ∙ cross (bitAt 1 u * tapB1 taps) (bitAt 1 v * tapB1 taps) (bitAt 0 u * tapB2 taps) (bitAt 0 v * tapB2 taps))
     ∙ cross (zeroInputStep s) (zeroInputStep d) (bitXor (bitAt 1 u * tapB1 taps) (bitAt 0 u * tapB2 taps))
     (bitXor (bitAt 1 v * tapB1 taps) (bitAt 0 v * tapB2 taps))
@@ -76,22 +75,22 @@ bit-lt taps s u = mod-lt _ (lit< tt)
 
 -- ---- many pairs
 
-module _ (taps : ℕ) (p q r : ℕ → ℕ) (hp : (j : ℕ) → p j < 4) (hq : (j : ℕ) → q j < 4) (sums : (j : ℕ) → r j ≡ bitXor (p j) (q j)) where
+module _ (taps : ℕ) (p q r : ℕ → ℕ) (sums : (j : ℕ) → r j ≡ bitXor (p j) (q j)) where
   pub state-linear : (s d : ℕ) → s < 8 → d < 8 → (n : ℕ) → stateAt taps r (bitXor s d) n ≡ bitXor (stateAt taps p s n) (stateAt taps q d n)
   unfolding stateAt
   state-linear s d hs hd zero = refl
   state-linear s d hs hd (suc n) =
       ap₂ (next taps) (state-linear s d hs hd n) (sums n)
-      ∙ next-linear taps (stateAt taps p s n) (stateAt taps q d n) (p n) (q n) (state-lt taps p s hs n) (state-lt taps q d hd n) (hp n) (hq n)
+      ∙ next-linear taps (stateAt taps p s n) (stateAt taps q d n) (p n) (q n) (state-lt taps p s hs n) (state-lt taps q d hd n)
 
-  parities-linear : (s d : ℕ) → s < 8 → d < 8 → (n : ℕ) → parities taps r (bitXor s d) n ≡ bitXor (parities taps p s n) (parities taps q d n)
+  parities-linear : ((j : ℕ) → p j < 4) → ((j : ℕ) → q j < 4) → (s d : ℕ) → s < 8 → d < 8 → (n : ℕ) → parities taps r (bitXor s d) n ≡ bitXor (parities taps p s n) (parities taps q d n)
   unfolding parities
-  parities-linear s d hs hd zero = refl
-  parities-linear s d hs hd (suc n) =
+  parities-linear hp hq s d hs hd zero = refl
+  parities-linear hp hq s d hs hd (suc n) =
       let b : parity taps (stateAt taps r (bitXor s d) n) (r n) ≡ bitXor (parity taps (stateAt taps p s n) (p n)) (parity taps (stateAt taps q d n) (q n)) =
       ap₂ (parity taps) (state-linear s d hs hd n) (sums n)
       ∙ parity-linear taps (stateAt taps p s n) (stateAt taps q d n) (p n) (q n) (state-lt taps p s hs n) (state-lt taps q d hd n) (hp n) (hq n) in
-      ap₂ (λ (x y : ℕ). x * 4 + y) (parities-linear s d hs hd n) b
+      ap₂ (λ (x y : ℕ). x * 4 + y) (parities-linear hp hq s d hs hd n) b
       ∙ sym
       (xor-block 2 (parities taps p s n) (parities taps q d n) (parity taps (stateAt taps p s n) (p n)) (parity taps (stateAt taps q d n) (q n))
       (omega (arith, bit-lt taps (stateAt taps p s n) (p n))) (omega (arith, bit-lt taps (stateAt taps q d n) (q n))))
@@ -122,8 +121,8 @@ word-linear taps s d a b hs hd =
     let hx : x < 8 = state-lt taps (pairIn a) s hs 4 in
     let hy : y < 8 = state-lt taps (pairIn b) d hd 4 in
     ap₂ (λ (m n : ℕ). m * 256 + n * 8)
-    (parities-linear taps (pairIn a) (pairIn b) (pairIn (bitXor a b)) (in-lt a) (in-lt b) (in-sums a b) s d hs hd 4)
-    (state-linear taps (pairIn a) (pairIn b) (pairIn (bitXor a b)) (in-lt a) (in-lt b) (in-sums a b) s d hs hd 4)
+    (parities-linear taps (pairIn a) (pairIn b) (pairIn (bitXor a b)) (in-sums a b) (in-lt a) (in-lt b) s d hs hd 4)
+    (state-linear taps (pairIn a) (pairIn b) (pairIn (bitXor a b)) (in-sums a b) s d hs hd 4)
     ∙ ap (λ (n : ℕ). bitXor (parities taps (pairIn a) s 4) (parities taps (pairIn b) d 4) * 256 + n) (eight x y hx hy)
     ∙ sym (xor-block 8 (parities taps (pairIn a) s 4) (parities taps (pairIn b) d 4) (x * 8) (y * 8) (omega arith) (omega arith))
   where

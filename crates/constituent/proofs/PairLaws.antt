@@ -10,7 +10,8 @@ use lib.Pow.{shr-shr}
 use Rattle.bits.specs.Bits.{bitOf}
 use Rattle.bits.proofs.BitLaws.{bit-binary}
 use Rattle.bits.proofs.RangeLaws.{under}
-use Rattle.constituent.specs.Pairs.{pairCount, pairAt, pairIn, fourFrom}
+use Rattle.constituent.specs.Pairs.{pairCount, pairAt}
+use Rattle.constituent.specs.Loops.Bytes.{pairIn, fourFrom}
 
 pub few-pairs : (kind : ℕ) → kind < 5 → pairCount kind < 2081
 few-pairs = under 5 2081 pairCount tt

@@ -5,42 +5,43 @@ use Prim.Native.Nat.{ℕ, _+_, _*_, _/_, _%_, _<_}
 use native.Mathlib.Omega.{arith}
 use borrow.Author.Tests.{eq-eqb, ne-eqb}
 use Rattle.bits.specs.Bits.{bitOf, pack, byteOf}
-use Rattle.constituent.specs.Pairs.{pairCount, pairAt, fourFrom}
+use Rattle.constituent.specs.Pairs.{pairCount, pairAt}
+use Rattle.constituent.specs.Loops.Bytes.{fourFrom}
 use Rattle.constituent.specs.Encoder.{startOf, ringStart, parityAt}
-use Rattle.constituent.specs.Passes.{inTurn, stateBy}
-use Rattle.constituent.proofs.RingLaws.{parity-lt}
+use Rattle.constituent.specs.Loops.Passes.{multiplexed, stateBy}
+use Rattle.constituent.proofs.StateLaws.{parity-lt}
 use Rattle.constituent.proofs.ByteLaws.{parityBy}
 
 module _ (kind taps : ℕ) (p q : ℕ → ℕ) where
   -- the bits of the first encoder stand at even places, those of the second at odd ones
-  pub turn-first : (i t : ℕ) → i ≡ 2 * t → inTurn kind taps p q i ≡ parityAt kind taps p t
-  unfolding inTurn
-  turn-first i t e = let d : i / 2 ≡ t = omega arith in rw (d, eq-eqb (i % 2) 0 (omega arith))
+  pub multiplexed-first : (i t : ℕ) → i ≡ 2 * t → multiplexed kind taps p q i ≡ parityAt kind taps p t
+  unfolding multiplexed
+  multiplexed-first i t e = let d : i / 2 ≡ t = omega arith in rw (d, eq-eqb (i % 2) 0 (omega arith))
 
-  pub turn-second : (i t : ℕ) → i ≡ 2 * t + 1 → inTurn kind taps p q i ≡ parityAt kind taps q t
-  unfolding inTurn
-  turn-second i t e = let d : i / 2 ≡ t = omega arith in rw (d, ne-eqb (i % 2) 0 (λ z. omega arith))
+  pub multiplexed-second : (i t : ℕ) → i ≡ 2 * t + 1 → multiplexed kind taps p q i ≡ parityAt kind taps q t
+  unfolding multiplexed
+  multiplexed-second i t e = let d : i / 2 ≡ t = omega arith in rw (d, ne-eqb (i % 2) 0 (λ z. omega arith))
 
-  pub turn-lt : (i : ℕ) → inTurn kind taps p q i < 2
-  unfolding inTurn
-  turn-lt i = parity-lt kind taps _ (i / 2)
+  pub multiplexed-lt : (i : ℕ) → multiplexed kind taps p q i < 2
+  unfolding multiplexed
+  multiplexed-lt i = parity-lt kind taps _ (i / 2)
 
   -- four parity bits of each encoder, in turn, are a byte
-  pub turn-byte : (i x y : ℕ) → x ≡ fourFrom (parityAt kind taps p) i → y ≡ fourFrom (parityAt kind taps q) i → 2 * x + y ≡ byteOf (inTurn kind taps p q) i
+  pub multiplexed-byte : (i x y : ℕ) → x ≡ fourFrom (parityAt kind taps p) i → y ≡ fourFrom (parityAt kind taps q) i → 2 * x + y ≡ byteOf (multiplexed kind taps p q) i
   unfolding byteOf pack
-  turn-byte i x y hx hy =
+  multiplexed-byte i x y hx hy =
       omega (
         arith,
         hx,
         hy,
-        turn-first (8 * i + 0) (4 * i) (omega arith),
-        turn-second (8 * i + 1) (4 * i) (omega arith),
-        turn-first (8 * i + 2) (4 * i + 1) (omega arith),
-        turn-second (8 * i + 3) (4 * i + 1) (omega arith),
-        turn-first (8 * i + 4) (4 * i + 2) (omega arith),
-        turn-second (8 * i + 5) (4 * i + 2) (omega arith),
-        turn-first (8 * i + 6) (4 * i + 3) (omega arith),
-        turn-second (8 * i + 7) (4 * i + 3) (omega arith),
+        multiplexed-first (8 * i + 0) (4 * i) (omega arith),
+        multiplexed-second (8 * i + 1) (4 * i) (omega arith),
+        multiplexed-first (8 * i + 2) (4 * i + 1) (omega arith),
+        multiplexed-second (8 * i + 3) (4 * i + 1) (omega arith),
+        multiplexed-first (8 * i + 4) (4 * i + 2) (omega arith),
+        multiplexed-second (8 * i + 5) (4 * i + 2) (omega arith),
+        multiplexed-first (8 * i + 6) (4 * i + 3) (omega arith),
+        multiplexed-second (8 * i + 7) (4 * i + 3) (omega arith),
       )
 
 -- ---- the passes over a block's bytes

@@ -1,5 +1,4 @@
 -- What the contracts and the theorems of `constituent` cite. Assumes nothing.
 pub mod Pairs
 pub mod Encoder
-pub mod Bytes
-pub mod Passes
+pub mod Loops

@@ -9,10 +9,10 @@ ghost use lib.ListN.{length, replicate};
 ghost use Rattle.bits.specs.Bits.{bitOf, byteOf};
 ghost use Rattle.bits.specs.Lists.{tabulate, written};
 ghost use Rattle.card.specs.Modes.{blockBytes};
-ghost use Rattle.constituent.specs.Pairs.{pairAt, pairIn};
+ghost use Rattle.constituent.specs.Pairs.{pairAt};
 ghost use Rattle.constituent.specs.Encoder.{next, parity, startOf};
-ghost use Rattle.constituent.specs.Bytes.{byteWord, Doubling, ByBytes, ByStates};
-ghost use Rattle.constituent.specs.Passes.{SameEnd, Ended, Started, Blocks, inTurn};
+ghost use Rattle.constituent.specs.Loops.Bytes.{byteWord, Doubling, ByBytes, ByStates, pairIn};
+ghost use Rattle.constituent.specs.Loops.Passes.{SameEnd, Ended, Started, Blocks, multiplexed};
 
 // The three rows of M, by kind.
 const ROW1: [u8; 5] = [1, 1, 3, 5, 1];
@@ -136,6 +136,7 @@ fn given(parities: u64, state: u64, word: u16) -> u8
     ((parities >> state) % 256) as u8 ^ (word / 256) as u8
 }
 
+// A byte as an index.
 fn wide(x: u8) -> usize
     ensures { λ r. ⌜ r ≡ x ⌝ }
 {
@@ -200,7 +201,7 @@ fn walk(rows: Rows, table: &[u16; 256], bytes: &[u8], second: &[u8]) -> States
     }
 }
 
-// The same. Long lists are folded first, which the compiler does sixteen bytes at a time.
+// Pass one of both encoders, from the state zero to the end of two lists. Long lists are folded first, which is faster.
 fn pass_one(rows: Rows, table: &[u16; 256], bytes: &[u8], second: &[u8]) -> States
     requires { ⌜ (length (now bytes) ≤ length (now second)) × (length (now bytes) < 65536) ⌝ }
     requires { ⌜ ByStates rows × ByBytes (rows .taps) (now table) ⌝ }
@@ -231,7 +232,7 @@ fn ring_starts(kind: usize, rows: Rows, table: &[u16; 256], bytes: &[u8], second
     }
 }
 
-// Pass two of both encoders: the parity bits of both in turn, eight to a byte, at the start of `out`.
+// Pass two of both encoders: the parity bits of both, multiplexed, eight to a byte, at the start of `out`.
 fn pack_parity(
     kind: usize,
     rows: Rows,
@@ -244,7 +245,7 @@ fn pack_parity(
     requires { ⌜ Blocks kind (now bytes) (now second) ⌝ }
     requires { ⌜ ByStates rows × ByBytes (rows .taps) (now table) ⌝ }
     requires { ⌜ Started kind (rows .taps) (now bytes) (now second) from × (blockBytes kind ≤ length (now out)) ⌝ }
-    ensures { λ _. ⌜ now (out .exit) ≡ written (blockBytes kind) (byteOf (inTurn kind (rows .taps) (pairAt (bitOf (now (bytes .entry)))) (pairAt (bitOf (now (second .entry)))))) (now (out .entry)) ⌝ }
+    ensures { λ _. ⌜ now (out .exit) ≡ written (blockBytes kind) (byteOf (multiplexed kind (rows .taps) (pairAt (bitOf (now (bytes .entry)))) (pairAt (bitOf (now (second .entry)))))) (now (out .entry)) ⌝ }
 {
     let states = rows.states;
     let parities = rows.parities;
@@ -261,10 +262,10 @@ fn pack_parity(
     }
 }
 
-// The parity bits of both encoders in turn, eight to a byte, at the start of `out`: the first goes over `bytes`, the other over `second`.
+// The parity bits of both encoders, multiplexed, eight to a byte, at the start of `out`: the first goes over `bytes`, the other over `second`.
 pub fn parity_bytes(kind: usize, taps: u16, bytes: &[u8], second: &[u8], out: &mut [u8])
     requires { ⌜ Blocks kind (now bytes) (now second) × (blockBytes kind ≤ length (now out)) ⌝ }
-    ensures { λ _. ⌜ now (out .exit) ≡ written (blockBytes kind) (byteOf (inTurn kind taps (pairAt (bitOf (now (bytes .entry)))) (pairAt (bitOf (now (second .entry)))))) (now (out .entry)) ⌝ }
+    ensures { λ _. ⌜ now (out .exit) ≡ written (blockBytes kind) (byteOf (multiplexed kind taps (pairAt (bitOf (now (bytes .entry)))) (pairAt (bitOf (now (second .entry)))))) (now (out .entry)) ⌝ }
 {
     let mut table = [0u16; 256];
     by_bytes(taps, &mut table);

@@ -15,7 +15,7 @@ use Rattle.card.specs.Text.{modeLines, cardLines, cardText}
 use Rattle.text.specs.Text.{ascii, places, decimal, binary}
 use Rattle.scrambler.specs.Scrambler.{feedback, shifted, afterShifts, scramblerBit, allOnes}
 use Rattle.constituent.specs.Encoder.{plus, startOf}
-use Rattle.pair_interleaver.specs.Interleave.{placeBy, place}
+use Rattle.pair_interleaver.specs.Interleave.{sourcePairBy, sourcePair}
 use Rattle.interleaver.specs.Source.{column}
 use Rattle.votes.specs.Votes.{carries, copies}
 use Rattle.bands.specs.Bands.{offsets, carriers}
@@ -49,9 +49,9 @@ checks =
     -- P1: the first sixteen scrambler bits
     (byteOf (scramblerBit allOnes) 0 ∷ byteOf (scramblerBit allOnes) 1 ∷ [], 0x1C ∷ 0x4E ∷ [])
     -- P2: size 16, I(0), I(8) and I(63)
-    ∷ (place 0 0 ∷ place 0 8 ∷ place 0 63 ∷ [], 53 ∷ 45 ∷ 26 ∷ [])
+    ∷ (sourcePair 0 0 ∷ sourcePair 0 8 ∷ sourcePair 0 63 ∷ [], 53 ∷ 45 ∷ 26 ∷ [])
     -- P3: size 72, I(18)
-    ∷ (place 1 18 ∷ [], 271 ∷ [])
+    ∷ (sourcePair 1 18 ∷ [], 271 ∷ [])
     -- P4 and P5: SN 100 at sizes 16 and 136
     ∷ (startOf 0 0b100 ∷ [], 0b001 ∷ [])
     ∷ (startOf 2 0b100 ∷ [], 0b011 ∷ [])
@@ -80,5 +80,5 @@ Agree [] = Unit {0}
 Agree (row ∷ rows) = (row .0 ≡ row .1) × Agree rows
 
 pub checks-agree : Agree checks
-unfolding cardText cardLines modeLines decimal binary places lowest tabulate readCard cardOf definedMode field pack byteOf bitOf feedback shifted afterShifts scramblerBit startOf place offsets carriers carrierCount itemCount laneBit carries copies sum count placeBy plus layoutOf layoutFor padBits symbolCount symbolBits
+unfolding cardText cardLines modeLines decimal binary places lowest tabulate readCard cardOf definedMode field pack byteOf bitOf feedback shifted afterShifts scramblerBit startOf sourcePair offsets carriers carrierCount itemCount laneBit carries copies sum count sourcePairBy plus layoutOf layoutFor padBits symbolCount symbolBits
 checks-agree = (refl, (refl, (refl, (refl, (refl, (refl, (refl, (refl, (refl, (refl, (refl, (refl, (refl, (refl, tt))))))))))))))

@@ -10,12 +10,12 @@ use Rattle.bits.proofs.BitLaws.{Binary}
 use Rattle.bits.proofs.RangeLaws.{agree₂, under}
 use Rattle.card.specs.Modes.{blockBytes, Defined}
 use Rattle.constituent.specs.Pairs.{pairCount}
-use Rattle.turbo.specs.Puncture.{row, keptCount}
+use Rattle.turbo.specs.Puncture.{pattern, keptCount}
 use Rattle.turbo.specs.Parity.{keptBit}
 use Rattle.turbo.proofs.ParityLaws.{kept-binary, kept-ext}
 use Rattle.turbo.proofs.PunctureLaws.{kept-count, kept-le}
 use Rattle.constituent.proofs.PairLaws.{few-pairs}
-use Rattle.interleaver.specs.Layouts.{groups}
+use Rattle.interleaver.specs.Shapes.{groups}
 use Rattle.interleaver.specs.Source.{codedBits, source}
 use Rattle.interleaver.proofs.InterleaverLaws.{source-lt}
 use Rattle.fec.specs.Coding.{dataBits, sourceBit, codedBit}
@@ -44,7 +44,7 @@ module _ (kind rate : ℕ) (D : Defined kind rate) where
   pub coded-count : codedBits kind rate ≡ dataBits kind + keptCount kind rate
   unfolding codedBits ones onesIn
   coded-count =
-      agree₂ 5 2 (λ k r. (blockBytes k * 2 + blockBytes k * 2 / getD groups r 0) * 4) (λ k r. dataBits k + pairCount k / 8 * ones (row r)) tt
+      agree₂ 5 2 (λ k r. (blockBytes k * 2 + blockBytes k * 2 / getD groups r 0) * 4) (λ k r. dataBits k + pairCount k / 8 * ones (pattern r)) tt
       kind rate (D .kind-lt) (D .rate-lt)
       ∙ ap (_+_ (dataBits kind)) (kept-count kind rate (D .kind-lt) (D .rate-lt))
 

@@ -9,7 +9,7 @@ use lib.ListN.{drop}
 use borrow.Author.Tests.{ltb-false, lt-ltb, le-ltb, eq-eqb}
 use Rattle.bits.specs.Bits.{bytesOf}
 use Rattle.bits.proofs.BitLaws.{Binary, same-bits}
-use Rattle.bits.proofs.ListLaws.{lowest-none, lowest-here, lowest-below, lowest-up-to, lowest-ext}
+use Rattle.bits.proofs.ListLaws.{lowest-none, lowest-below, lowest-up-to, lowest-ext}
 use Rattle.bits.proofs.SumLaws.{count-none, count-ext}
 use Rattle.refusal.specs.declared.Refusal.the-variants.{Majority, Parity}
 use Rattle.refusal.specs.Report.{done, refusal}
@@ -103,12 +103,6 @@ module _ (kind rate : ℕ) (e : ℕ → ℕ) (b : ℕ) (undecided : 1 < e b) whe
   pub undecided-le : firstUndecided kind rate e ≤ b
   unfolding firstUndecided
   undecided-le = lowest-up-to (codedBits kind rate) (λ i. ltb 1 (e i)) b (lt-ltb 1 (e b) undecided)
-
-  module _ (h : b < codedBits kind rate) where
-    -- and this bit itself where all bits below it are decided
-    pub undecided-here : ((k : ℕ) → k < b → e k ≤ 1) → firstUndecided kind rate e ≡ b
-    unfolding firstUndecided
-    undecided-here below = lowest-here (codedBits kind rate) (λ i. ltb 1 (e i)) b h (λ k l. le-ltb 1 (e k) (below k l)) (lt-ltb 1 (e b) undecided)
 
 -- where none is undecided every coded bit is a bit
 pub all-decided : (kind rate : ℕ) (e : ℕ → ℕ) → codedBits kind rate ≤ firstUndecided kind rate e → Binary (codedBits kind rate) e

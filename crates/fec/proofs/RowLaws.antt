@@ -19,9 +19,9 @@ use Rattle.columns.specs.Columns.{rowed, unrowed, tallest}
 use Rattle.turbo.specs.Puncture.{keptCount}
 use Rattle.turbo.specs.Parity.{keptBit}
 use Rattle.turbo.proofs.ParityLaws.{kept-binary}
-use Rattle.interleaver.specs.Layouts.{layoutOf}
+use Rattle.interleaver.specs.Shapes.{shapeOf}
 use Rattle.interleaver.specs.Source.{codedBits, source, codedAt}
-use Rattle.interleaver.specs.RowOrder.{sourceAt, rowPlace, rowSource}
+use Rattle.interleaver.specs.Loops.RowOrder.{sourceAt, rowPlace, rowSource}
 use Rattle.interleaver.proofs.InterleaverLaws.{coded-lt, row-place-lt, row-source-lt, row-source-place}
 use Rattle.interleaver.proofs.RowLaws.{filled-lt}
 use Rattle.fec.specs.Coding.{dataBits, sourceBit, codedBit}
@@ -33,7 +33,7 @@ abbrev pub dataHeight : ℕ → ℕ
 dataHeight kind = blockBytes kind * 2
 
 abbrev pub parityHeight : ℕ → ℕ → ℕ
-parityHeight kind rate = layoutOf kind rate .parity
+parityHeight kind rate = shapeOf kind rate .parity
 
 -- a height that the columns serve, in whole pairs of rows
 abbrev pub Served : ℕ → Type 0

@@ -17,7 +17,7 @@ ghost use Rattle.card.specs.Modes.{blockBytes, Defined};
 ghost use Rattle.turbo.specs.Puncture.{keptCount};
 ghost use Rattle.turbo.specs.Parity.{keptBit};
 ghost use Rattle.interleaver.specs.Source.{codedBits};
-ghost use Rattle.interleaver.specs.RowOrder.{rowSource};
+ghost use Rattle.interleaver.specs.Loops.RowOrder.{rowSource};
 ghost use Rattle.fec.specs.Coding.{sourceBit, codedBit};
 ghost use Rattle.fec.specs.Recovery.{dataBit, parityBit, recovered};
 

@@ -6,15 +6,15 @@ use Prim.Native.Nat.{ℕ, _+_, _*_, _/_, _<_, _≤_}
 use native.Mathlib.Nat.{le-of-suc-le-suc}
 use lib.ListN.{length, getD}
 use Rattle.bits.specs.Lists.{tabulate}
-use Rattle.bits.specs.Permutations.{Permutes, Once}
+use Rattle.bits.specs.Permutations.{Permutes}
 use Rattle.bits.proofs.ListLaws.{getD-tabulate, tabulate-of}
-use Rattle.bits.proofs.PermutationLaws.{once, inverse, inverse-after, after-inverse, inverse-lt}
+use Rattle.bits.proofs.PermutationLaws.{inverse, inverse-after, after-inverse, inverse-lt}
 use Rattle.bits.proofs.RangeLaws.{agree, under₂}
 use Rattle.card.specs.Modes.{blockBytes, Defined}
-use Rattle.interleaver.specs.Layouts.{groups, layoutOf}
+use Rattle.interleaver.specs.Shapes.{groups, shapeOf}
 use Rattle.interleaver.specs.Source.{codedBits, source, codedAt}
-use Rattle.interleaver.specs.RowOrder.{rowPlace, rowSource}
-use Rattle.interleaver.proofs.LayoutLaws.{sound-of}
+use Rattle.interleaver.specs.Loops.RowOrder.{rowPlace, rowSource}
+use Rattle.interleaver.proofs.ShapeLaws.{sound-of}
 use Rattle.interleaver.proofs.SourceLaws.{source-permutes}
 use Rattle.interleaver.proofs.RowLaws.{source-at-place, source-at-lt, place-permutes}
 
@@ -37,10 +37,7 @@ module _ (kind rate : ℕ) (D : Defined kind rate) where
   -- the interleaver is a permutation of the coded bits
   pub permutes : Permutes (codedBits kind rate) (source kind rate)
   unfolding codedBits source
-  permutes = source-permutes (layoutOf kind rate) (sound-of kind rate D)
-
-  pub source-once : Once (codedBits kind rate) (source kind rate)
-  source-once = once (codedBits kind rate) (source kind rate) permutes
+  permutes = source-permutes (shapeOf kind rate) (sound-of kind rate D)
 
   pub source-lt : (i : ℕ) → i < codedBits kind rate → source kind rate i < codedBits kind rate
   source-lt = permutes .below
@@ -60,18 +57,18 @@ module _ (kind rate : ℕ) (D : Defined kind rate) where
   -- the places of the coded bits in the list of rows are a permutation, and each holds its source bit
   pub row-permutes : Permutes (codedBits kind rate) (rowPlace kind rate)
   unfolding codedBits rowPlace
-  row-permutes = place-permutes (layoutOf kind rate) (sound-of kind rate D)
+  row-permutes = place-permutes (shapeOf kind rate) (sound-of kind rate D)
 
   pub row-place-lt : (i : ℕ) → i < codedBits kind rate → rowPlace kind rate i < codedBits kind rate
   row-place-lt = row-permutes .below
 
   pub row-source-lt : (j : ℕ) → j < codedBits kind rate → rowSource kind rate j < codedBits kind rate
   unfolding codedBits rowSource
-  row-source-lt = source-at-lt (layoutOf kind rate) (sound-of kind rate D)
+  row-source-lt = source-at-lt (shapeOf kind rate) (sound-of kind rate D)
 
   pub row-source-place : (i : ℕ) → i < codedBits kind rate → rowSource kind rate (rowPlace kind rate i) ≡ source kind rate i
   unfolding codedBits source rowPlace rowSource
-  row-source-place = source-at-place (layoutOf kind rate) (sound-of kind rate D)
+  row-source-place = source-at-place (shapeOf kind rate) (sound-of kind rate D)
 
   -- the coded bit at place j of the rows
   pub row-inverse : (j : ℕ) → j < codedBits kind rate → inverse (codedBits kind rate) (rowPlace kind rate) j ≡ codedAt kind rate (rowSource kind rate j)

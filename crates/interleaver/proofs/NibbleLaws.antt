@@ -6,12 +6,12 @@ use Prim.Native.Nat.{ℕ, _+_, _-_, _*_, _/_, _%_, _<_, _≤_}
 use native.Mathlib.Omega.{arith}
 use lib.ListN.{length, getD}
 use Rattle.bits.specs.Permutations.{Permutes}
-use Rattle.interleaver.specs.declared.Layout.{Layout}
-use Rattle.interleaver.specs.Layouts.{layoutOf}
+use Rattle.interleaver.specs.declared.Shape.{Shape}
+use Rattle.interleaver.specs.Shapes.{shapeOf}
 use Rattle.interleaver.specs.Source.{column, codedOf, codedBits}
-use Rattle.interleaver.specs.RowOrder.{rowOf, placeOf, rowPlace}
+use Rattle.interleaver.specs.Loops.RowOrder.{rowOf, placeOf, rowPlace}
 use Rattle.bits.specs.Loops.Words.{wordByte, stored}
-use Rattle.interleaver.specs.Stores.{target, origin, carried}
+use Rattle.interleaver.specs.Loops.Stores.{target, origin, carried}
 use Rattle.interleaver.proofs.SourceLaws.{column-apart}
 use Rattle.interleaver.proofs.RowLaws.{place-nibble}
 use Rattle.bits.proofs.StoreLaws.{stored-none, stored-append, stored-ext, stored-reordered}
@@ -30,24 +30,24 @@ side : (b a : ℕ) → b * 1 + a ≡ a + b
 side b a = omega arith
 
 module _ (n first : ℕ) (back : Bool) (from to now : List ℕ) (word x : ℕ) where
-  -- a word read from a row and turned on the way out
+  -- a word read from a row and rotated on the way out
   pub nibble-out : back ≡ false → ((c : ℕ) → c < 4 → wordByte word c ≡ getD from (c * 1 + first) 0)
       → ((b : ℕ) → b < 4 → wordByte x b ≡ wordByte word (column n b))
       → now ≡ stored 4 (λ b. b * 1 + n * 4) (wordByte x) to
       → Moved n first back from to now
-  nibble-out way read turned e =
+  nibble-out way read rotated e =
       rw way
       (e
       ∙ stored-ext 4 _ _ _ _ to (λ b h. side b (n * 4))
-      (λ b h. turned b h ∙ read (column n b) (omega arith) ∙ ap (λ (y : ℕ). getD from y 0) (side (column n b) first)))
+      (λ b h. rotated b h ∙ read (column n b) (omega arith) ∙ ap (λ (y : ℕ). getD from y 0) (side (column n b) first)))
 
-  -- a word read from the coded bits and turned on the way back
+  -- a word read from the coded bits and rotated on the way back
   pub nibble-back : back ≡ true → first + 4 ≤ length to
       → ((b : ℕ) → b < 4 → wordByte word b ≡ getD from (b * 1 + n * 4) 0)
       → ((c : ℕ) → c < 4 → wordByte x c ≡ wordByte word ((c + n / 2 % 4) % 4))
       → now ≡ stored 4 (λ c. c * 1 + first) (wordByte x) to
       → Moved n first back from to now
-  nibble-back way room read turned e =
+  nibble-back way room read rotated e =
       rw way
       (e ∙ stored-reordered 4 (column n) (λ c. c * 1 + first) (wordByte x) to (columns-permute n) (λ j k hj hk z. omega arith) (λ k h. omega arith)
       ∙ stored-ext 4 _ _ _ _ to (λ b h. side (column n b) first) value)
@@ -55,9 +55,9 @@ module _ (n first : ℕ) (back : Bool) (from to now : List ℕ) (word x : ℕ) w
       value : (b : ℕ) → b < 4 → wordByte x (column n b) ≡ getD from (n * 4 + b) 0
       value b h =
           let i : (column n b + n / 2 % 4) % 4 ≡ b = omega arith in
-          turned (column n b) (omega arith) ∙ ap (wordByte word) i ∙ read b h ∙ ap (λ (y : ℕ). getD from y 0) (side b (n * 4))
+          rotated (column n b) (omega arith) ∙ ap (wordByte word) i ∙ read b h ∙ ap (λ (y : ℕ). getD from y 0) (side b (n * 4))
 
-module _ (L : Layout) (back : Bool) (from : List ℕ) where
+module _ (L : Shape) (back : Bool) (from : List ℕ) where
   -- where bit i is stored, and what is stored there
   abbrev place : ℕ → ℕ
   place i = target back (placeOf L) i
@@ -110,10 +110,10 @@ module _ (L : Layout) (back : Bool) (from : List ℕ) where
       ∙ ap (λ (k : ℕ). stored k place value to) count
 
 -- all nibbles of a block of a kind and rate, and the way that they were carried
-pub carried-block : (kind rate : ℕ) (back way : Bool) (from to now : List ℕ) (L : Layout) → L ≡ layoutOf kind rate → back ≡ way
+pub carried-block : (kind rate : ℕ) (back way : Bool) (from to now : List ℕ) (L : Shape) → L ≡ shapeOf kind rate → back ≡ way
     → now ≡ carried L way from 0 (L .rows + L .parity) to
     → now ≡ stored (codedBits kind rate) (target back (rowPlace kind rate)) (λ i. getD from (origin back (rowPlace kind rate) i) 0) to
 unfolding codedBits rowPlace
 carried-block kind rate back way from to now L e t d =
     carried-all L way from to now d
-    ∙ ap₂ (λ (K : Layout) (b : Bool). stored (codedOf K) (target b (placeOf K)) (λ i. getD from (origin b (placeOf K) i) 0) to) e (sym t)
+    ∙ ap₂ (λ (K : Shape) (b : Bool). stored (codedOf K) (target b (placeOf K)) (λ i. getD from (origin b (placeOf K) i) 0) to) e (sym t)

@@ -1,4 +1,4 @@
--- The joined stream of a layout of pairs. Assumes nothing.
+-- The joined stream of a shape of pairs. Assumes nothing.
 use mathlib.Core.Path.{_≡_, ap, _∙_}
 use mathlib.Core.Bool.{true, false}
 use Prim.Native.Nat.{ℕ, _+_, _*_, _/_, _%_, _<_}
@@ -6,23 +6,23 @@ use native.Mathlib.Nat.{mod-lt}
 use native.Mathlib.Omega.{arith}
 use lib.Dec.{ltb}
 use borrow.Author.Tests.{le-ltb, eq-eqb, ne-eqb}
-use Rattle.interleaver.specs.declared.Layout.{Layout}
-use Rattle.interleaver.specs.Layouts.{Sound, Paired}
+use Rattle.interleaver.specs.declared.Shape.{Shape}
+use Rattle.interleaver.specs.Loops.Bounds.{Sound, Paired}
 use Rattle.interleaver.specs.Rows.{passRow, movedRow}
 use Rattle.interleaver.specs.Source.{parityRow, groupOf, placeIn, isParity, dataPlace}
-use Rattle.interleaver.specs.RowOrder.{rowOf}
-use Rattle.interleaver.specs.Walks.{OnPass}
+use Rattle.interleaver.specs.Loops.RowOrder.{rowOf}
+use Rattle.interleaver.specs.Loops.Walks.{OnPass}
 use Rattle.interleaver.proofs.SourceLaws.{row-moved}
 use Rattle.interleaver.proofs.RowLaws.{row-data, row-parity}
 use Rattle.interleaver.proofs.WalkLaws.{row-at}
 
 -- the two nibbles of the pair at place p, whose data row is this: their rows, and that all is within the rows
-abbrev pub Pair : Layout → ℕ → ℕ → Type 0
+abbrev pub Pair : Shape → ℕ → ℕ → Type 0
 Pair L p row =
     (row ≡ rowOf L (p * 2)) × (L .rows + movedRow (L .rows) (L .offset) row ≡ rowOf L (p * 2 + 1))
     × (p < L .rows) × (movedRow (L .rows) (L .offset) row < L .rows)
 
-module _ (L : Layout) (S : Sound L) (P : Paired L) where
+module _ (L : Shape) (S : Sound L) (P : Paired L) where
   pub parity-is : L .parity ≡ L .rows
   parity-is = let e = rw (P .group-is) at (S .rows-are) in omega arith
 
@@ -50,6 +50,6 @@ module _ (L : Layout) (S : Sound L) (P : Paired L) where
         mod-lt (row + L .offset) (omega arith),
       )
 
--- both nibbles of a pair are turned alike
-pub same-turn : (n place : ℕ) → n ≡ place * 2 → n / 2 % 4 ≡ (n + 1) / 2 % 4
-same-turn n place e = let h : n / 2 ≡ (n + 1) / 2 = omega arith in ap (λ (t : ℕ). t % 4) h
+-- both nibbles of a pair are rotated alike
+pub same-rotation : (n place : ℕ) → n ≡ place * 2 → n / 2 % 4 ≡ (n + 1) / 2 % 4
+same-rotation n place e = let h : n / 2 ≡ (n + 1) / 2 = omega arith in ap (λ (t : ℕ). t % 4) h

@@ -1,4 +1,4 @@
--- A block's source bits row by row: in every sound layout the places of the coded bits are a permutation, and each holds its source bit.
+-- A block's source bits row by row: in every sound shape the places of the coded bits are a permutation, and each holds its source bit.
 -- Assumes nothing.
 use mathlib.Core.Path.{_≡_, sym, ap, ap₂, _∙_}
 use mathlib.Core.Bool.{true, false}
@@ -9,23 +9,23 @@ use borrow.Author.Tests.{lt-ltb, le-ltb}
 use Rattle.bits.specs.Permutations.{Permutes}
 use Rattle.bits.proofs.BoolLaws.{test-cases}
 use Rattle.bits.proofs.NumberLaws.{lt-cases}
-use Rattle.interleaver.specs.declared.Layout.{Layout}
-use Rattle.interleaver.specs.Layouts.{Sound}
+use Rattle.interleaver.specs.declared.Shape.{Shape}
+use Rattle.interleaver.specs.Loops.Bounds.{Sound}
 use Rattle.interleaver.specs.Source.{dataRow, parityRow, groupOf, isParity, dataPlace, nibbleBit, column, sourceOf, codedOf}
-use Rattle.interleaver.specs.RowOrder.{rowOf, placeOf, sourceAt}
+use Rattle.interleaver.specs.Loops.RowOrder.{rowOf, placeOf, sourceAt}
 use Rattle.interleaver.proofs.SourceLaws.{data-row-lt, parity-row-lt, bit-data, bit-parity, source-permutes}
 
 -- the places of the coded bits of nibble n
-pub place-nibble : (L : Layout) (n b : ℕ) → b < 4 → placeOf L (n * 4 + b) ≡ rowOf L n * 4 + column n b
+pub place-nibble : (L : Shape) (n b : ℕ) → b < 4 → placeOf L (n * 4 + b) ≡ rowOf L n * 4 + column n b
 unfolding placeOf
 place-nibble L n b h = ap₂ (λ (m k : ℕ). rowOf L m * 4 + column m k) (digits-div n h) (digits-mod n h)
 
 -- the row of a nibble of data, and of one of parity
-pub row-data : (L : Layout) (n : ℕ) → isParity L n ≡ false → rowOf L n ≡ dataRow L (dataPlace L n)
+pub row-data : (L : Shape) (n : ℕ) → isParity L n ≡ false → rowOf L n ≡ dataRow L (dataPlace L n)
 unfolding rowOf
 row-data L n e = rw e
 
-pub row-parity : (L : Layout) (n : ℕ) → isParity L n ≡ true → rowOf L n ≡ L .rows + parityRow L (groupOf L n)
+pub row-parity : (L : Shape) (n : ℕ) → isParity L n ≡ true → rowOf L n ≡ L .rows + parityRow L (groupOf L n)
 unfolding rowOf
 row-parity L n e = rw e
 
@@ -34,18 +34,18 @@ pub filled-lt : (j height : ℕ) → j < height * 4 → j % 4 * height + j / 4 <
 filled-lt j height h = omega (arith, digits-lt {q = j % 4} {m = 4} {r = j / 4} {c = height} (omega arith) (omega arith))
 
 -- the source bit in column c of a data row, and of a parity row
-at-data : (L : Layout) (r c : ℕ) → c < 4 → r < L .rows → sourceAt L (r * 4 + c) ≡ c * L .rows + r
+at-data : (L : Shape) (r c : ℕ) → c < 4 → r < L .rows → sourceAt L (r * 4 + c) ≡ c * L .rows + r
 unfolding sourceAt
 at-data L r c hc h =
     rw (lt-ltb (r * 4 + c) (L .rows * 4) (omega arith), digits-mod r hc, digits-div r hc)
 
-at-parity : (L : Layout) (r c : ℕ) → c < 4 → sourceAt L ((L .rows + r) * 4 + c) ≡ L .rows * 4 + (c * L .parity + r)
+at-parity : (L : Shape) (r c : ℕ) → c < 4 → sourceAt L ((L .rows + r) * 4 + c) ≡ L .rows * 4 + (c * L .parity + r)
 unfolding sourceAt
 at-parity L r c hc =
     let e : (L .rows + r) * 4 + c - L .rows * 4 ≡ r * 4 + c = omega arith in
     rw (le-ltb ((L .rows + r) * 4 + c) (L .rows * 4) (omega arith), e, digits-mod r hc, digits-div r hc)
 
-module _ (L : Layout) (S : Sound L) where
+module _ (L : Shape) (S : Sound L) where
   row-lt : (n : ℕ) → n < L .rows + L .parity → rowOf L n < L .rows + L .parity
   row-lt n h =
       test-cases (isParity L n)

@@ -1,4 +1,4 @@
--- In every sound layout the source bits of the coded bits are a permutation. Assumes nothing.
+-- In every sound shape the source bits of the coded bits are a permutation. Assumes nothing.
 use mathlib.Core.Path.{_≡_, refl, sym, ap, ap₂, _∙_}
 use mathlib.Core.Bool.{Bool, true, false, cond}
 use Prim.Native.Nat.{ℕ, zero, suc, _+_, _-_, _*_, _/_, _%_, _<_, _≤_}
@@ -9,9 +9,9 @@ use lib.Arith.{digits-div, digits-mod, digits-lt}
 use borrow.Author.Tests.{lt-ltb, le-ltb, eqb-true, eqb-false}
 use Rattle.bits.specs.Permutations.{Permutes}
 use Rattle.bits.proofs.NumberLaws.{lt-cases}
-use Rattle.interleaver.specs.declared.Layout.{Layout}
+use Rattle.interleaver.specs.declared.Shape.{Shape}
 use Rattle.interleaver.specs.Rows.{passRow, movedRow, continuousRow}
-use Rattle.interleaver.specs.Layouts.{Sound}
+use Rattle.interleaver.specs.Loops.Bounds.{Sound}
 use Rattle.interleaver.specs.Source.{dataRow, parityRow, groupOf, placeIn, isParity, dataPlace, nibbleBit, column, sourceOf, codedOf}
 use Rattle.interleaver.proofs.PassLaws.{pass-permutes, moved-permutes, continuous-permutes}
 
@@ -46,15 +46,15 @@ whole-apart : (i j : ℕ) → i / 4 ≡ j / 4 → i % 4 ≡ j % 4 → i ≡ j
 whole-apart i j n b = omega arith
 
 -- the parity row in either order
-pub row-continuous : (L : Layout) (p : ℕ) → L .continuous ≡ true → parityRow L p ≡ continuousRow (L .parity) (L .step) (L .offset) p
+pub row-continuous : (L : Shape) (p : ℕ) → L .continuous ≡ true → parityRow L p ≡ continuousRow (L .parity) (L .step) (L .offset) p
 unfolding parityRow
 row-continuous L p e = rw e
 
-pub row-moved : (L : Layout) (p : ℕ) → L .continuous ≡ false → parityRow L p ≡ movedRow (L .parity) (L .offset) (passRow (L .parity) (L .step) p)
+pub row-moved : (L : Shape) (p : ℕ) → L .continuous ≡ false → parityRow L p ≡ movedRow (L .parity) (L .offset) (passRow (L .parity) (L .step) p)
 unfolding parityRow
 row-moved L p e = rw e
 
-module _ (L : Layout) (S : Sound L) where
+module _ (L : Shape) (S : Sound L) where
   pub parity-permutes : Permutes (L .parity) (parityRow L)
   unfolding parityRow
   parity-permutes = order-permutes (L .parity) (L .step) (L .offset) (L .continuous) (S .step-pos) (S .continuous-ok)

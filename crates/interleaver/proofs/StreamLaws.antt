@@ -10,17 +10,17 @@ use lib.Arith.{digits-div, digits-mod}
 use borrow.Author.Tests.{lt-ltb, le-ltb, eqb-true, eqb-false, eq-eqb, ne-eqb}
 use Rattle.bits.proofs.BoolLaws.{test-cases}
 use Rattle.bits.proofs.NumberLaws.{lt-cases}
-use Rattle.interleaver.specs.declared.Layout.{Layout}
-use Rattle.interleaver.specs.Layouts.{Sound}
+use Rattle.interleaver.specs.declared.Shape.{Shape}
+use Rattle.interleaver.specs.Loops.Bounds.{Sound}
 use Rattle.interleaver.specs.Source.{groupOf, placeIn, isParity, dataPlace}
-use Rattle.interleaver.specs.Walks.{parityPlace, untilParity}
+use Rattle.interleaver.specs.Loops.Walks.{parityPlace, untilParity}
 use Rattle.interleaver.proofs.SourceLaws.{place-lt, group-lt, data-place-lt}
 
 -- the counts before nibble n, and the nibbles until the next parity nibble
-abbrev Counts : Layout → ℕ → ℕ → ℕ → ℕ → Type 0
+abbrev Counts : Shape → ℕ → ℕ → ℕ → ℕ → Type 0
 Counts L n d p left = (dataPlace L n ≡ d) × (parityPlace L n ≡ p) × (untilParity L n ≡ left)
 
-module _ (L : Layout) (S : Sound L) where
+module _ (L : Shape) (S : Sound L) where
   parts : (n : ℕ) → groupOf L n * (L .group + 1) + placeIn L n ≡ n
   parts n = div-add-mod' n (L .group + 1)
 

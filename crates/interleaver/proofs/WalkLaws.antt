@@ -7,7 +7,7 @@ use lib.ListN.{length}
 use Rattle.bits.proofs.NumberLaws.{lt-cases}
 use Rattle.bits.proofs.ListLaws.{length-tabulate}
 use Rattle.interleaver.specs.Rows.{passes, passRow, movedRow, continuousRow}
-use Rattle.interleaver.specs.Walks.{OnPass}
+use Rattle.interleaver.specs.Loops.Walks.{OnPass}
 use Rattle.interleaver.proofs.PassLaws.{passStart, rowAt, length-is, pass-is, up-to, pass-row}
 
 -- a row moved up, where it passes the end at most once

@@ -1,7 +1,5 @@
 -- What the contracts and the theorems of `interleaver` cite. Assumes nothing.
 pub mod Rows
-pub mod Layouts
+pub mod Shapes
 pub mod Source
-pub mod RowOrder
-pub mod Stores
-pub mod Walks
+pub mod Loops

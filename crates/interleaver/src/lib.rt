@@ -9,15 +9,16 @@ ghost use lib.ListN.{length, getD};
 ghost use Rattle.bits.specs.Lists.{written};
 ghost use Rattle.card.specs.Modes.{blockBytes, Defined};
 ghost use Rattle.interleaver.specs.Rows.{passes, movedRow};
-ghost use Rattle.interleaver.specs.Layouts.{Sound, Small, Near, Paired, layoutOf};
+ghost use Rattle.interleaver.specs.Shapes.{shapeOf};
+ghost use Rattle.interleaver.specs.Loops.Bounds.{Sound, Small, Near, Paired};
 ghost use Rattle.interleaver.specs.Source.{isParity, dataPlace, column, codedOf, codedBits, codedAt};
-ghost use Rattle.interleaver.specs.RowOrder.{rowPlace, rowSource};
-ghost use Rattle.interleaver.specs.Walks.{OnPass, parityPlace, untilParity, Stands, Runs};
+ghost use Rattle.interleaver.specs.Loops.RowOrder.{rowPlace, rowSource};
+ghost use Rattle.interleaver.specs.Loops.Walks.{OnPass, parityPlace, untilParity, Stands, Runs};
 ghost use Rattle.bits.specs.Loops.Words.{stored};
-ghost use Rattle.interleaver.specs.Stores.{target, origin, carried};
+ghost use Rattle.interleaver.specs.Loops.Stores.{target, origin, carried};
 
-// The numbers of the interleaver at one kind and rate.
-pub struct Layout {
+// The shape of the interleaver at one kind and rate (000, Table 11).
+pub struct Shape {
     // data rows, and parity rows
     pub rows: usize,
     pub parity: usize,
@@ -63,14 +64,14 @@ pub fn data_rows(kind: usize) -> usize
     card::block_bytes(kind) * 2
 }
 
-// The layout of a kind and rate.
-fn layout_of(kind: usize, rate: usize) -> Layout
+// The shape of a kind and rate.
+fn shape_of(kind: usize, rate: usize) -> Shape
     requires { ⌜ Defined kind rate ⌝ }
-    ensures { λ r. ⌜ (r ≡ layoutOf kind rate) × (Sound r) × (Small r) × (Near r) × (r .continuous ≡ false → Paired r) ⌝ }
+    ensures { λ r. ⌜ (r ≡ shapeOf kind rate) × (Sound r) × (Small r) × (Near r) × (r .continuous ≡ false → Paired r) ⌝ }
 {
     let rows = data_rows(kind);
     let group = GROUPS[rate];
-    Layout {
+    Shape {
         rows,
         parity: rows / group,
         step: STEPS[kind + rate],
@@ -90,22 +91,22 @@ fn moved_row(rows: usize, offset: usize, row: usize) -> usize
     if moved < rows { moved } else { moved - rows }
 }
 
-// The four bits of nibble n, which is turned by `turn` and whose row starts at `first`, from rows to coded bits or back.
-fn move_word(n: usize, turn: u32, first: usize, back: bool, from: &[u8], to: &mut [u8])
-    requires { ⌜ (turn ≡ n / 2 % 4) × (n * 4 + 4 ≤ length (now from)) × (n * 4 + 4 ≤ length (now to)) × (first + 4 ≤ length (now from)) × (first + 4 ≤ length (now to)) ⌝ }
+// The four bits of nibble n, which is rotated by `rotation` and whose row starts at `first`, from rows to coded bits or back.
+fn move_word(n: usize, rotation: u32, first: usize, back: bool, from: &[u8], to: &mut [u8])
+    requires { ⌜ (rotation ≡ n / 2 % 4) × (n * 4 + 4 ≤ length (now from)) × (n * 4 + 4 ≤ length (now to)) × (first + 4 ≤ length (now from)) × (first + 4 ≤ length (now to)) ⌝ }
     ensures { λ _. ⌜ now (to .exit) ≡ stored 4 (λ b. cond back (first + column n b) (n * 4 + b))
         (λ b. getD (now (from .entry)) (cond back (n * 4 + b) (first + column n b)) 0) (now (to .entry)) ⌝ }
 {
     if back {
         let word = bits::gather(from, n * 4, 1);
-        bits::scatter(bits::rotated_back(word, turn), first, 1, to);
+        bits::scatter(bits::rotated_back(word, rotation), first, 1, to);
     } else {
         let word = bits::gather(from, first, 1);
-        bits::scatter(bits::rotated(word, turn), n * 4, 1, to);
+        bits::scatter(bits::rotated(word, rotation), n * 4, 1, to);
     }
 }
 
-// The same, where the turn is not at hand.
+// The four bits of nibble n, whose row starts at `first`, from rows to coded bits or back.
 fn move_nibble(n: usize, first: usize, back: bool, from: &[u8], to: &mut [u8])
     requires { ⌜ (n * 4 + 4 ≤ length (now from)) × (n * 4 + 4 ≤ length (now to)) × (first + 4 ≤ length (now from)) × (first + 4 ≤ length (now to)) ⌝ }
     ensures { λ _. ⌜ now (to .exit) ≡ stored 4 (λ b. cond back (first + column n b) (n * 4 + b))
@@ -115,7 +116,7 @@ fn move_nibble(n: usize, first: usize, back: bool, from: &[u8], to: &mut [u8])
 }
 
 // The parity nibble that the joined stream stands at, if it stands at one, and where the stream stands after it.
-fn move_parity(l: Layout, at: Stand, back: bool, from: &[u8], to: &mut [u8]) -> Stand
+fn move_parity(l: Shape, at: Stand, back: bool, from: &[u8], to: &mut [u8]) -> Stand
     requires { ⌜ (Sound l) × (Small l) × (Near l) × (l .continuous ≡ true) × (Stands l at) × (at .nibble < l .rows + l .parity)
         × (length (now from) ≡ codedOf l) × (codedOf l ≤ length (now to)) ⌝ }
     ensures stands { λ r. ⌜ (r .nibble ≡ at .nibble + cond (isParity l (at .nibble)) 1 0) × (Stands l r) × (0 < r .left) ⌝ }
@@ -133,7 +134,7 @@ fn move_parity(l: Layout, at: Stand, back: bool, from: &[u8], to: &mut [u8]) -> 
 }
 
 // Data nibbles of a pass, as long as the row is below `end`, with no parity nibble among them.
-fn move_data(l: Layout, start: Run, end: usize, back: bool, from: &[u8], to: &mut [u8]) -> Run
+fn move_data(l: Shape, start: Run, end: usize, back: bool, from: &[u8], to: &mut [u8]) -> Run
     requires { ⌜ (Sound l) × (Small l) × (start .pass < l .step) × (end ≤ l .rows) × (start .nibble ≤ l .rows + l .parity)
         × (OnPass (l .rows) (l .step) (dataPlace l (start .nibble)) (start .pass) (start .row))
         × (end ≤ start .row + untilParity l (start .nibble) * l .step)
@@ -163,7 +164,7 @@ fn least(a: usize, b: usize) -> usize
 }
 
 // The data nibbles of a pass, and the parity nibbles before each of them.
-fn move_pass(l: Layout, pass: usize, start: Stand, back: bool, from: &[u8], to: &mut [u8]) -> Stand
+fn move_pass(l: Shape, pass: usize, start: Stand, back: bool, from: &[u8], to: &mut [u8]) -> Stand
     requires { ⌜ (Sound l) × (Small l) × (Near l) × (l .continuous ≡ true) × (Stands l start) × (pass < l .step)
         × (dataPlace l (start .nibble) ≡ length (passes (l .rows) (l .step) pass))
         × (length (now from) ≡ codedOf l) × (codedOf l ≤ length (now to)) ⌝ }
@@ -192,8 +193,8 @@ fn move_pass(l: Layout, pass: usize, start: Stand, back: bool, from: &[u8], to: 
     at
 }
 
-// All nibbles of a layout whose parity rows are read on without a restart.
-fn move_groups(l: Layout, back: bool, from: &[u8], to: &mut [u8])
+// All nibbles of a shape whose parity rows are read on without a restart.
+fn move_groups(l: Shape, back: bool, from: &[u8], to: &mut [u8])
     requires { ⌜ (Sound l) × (Small l) × (Near l) × (l .continuous ≡ true)
         × (length (now from) ≡ codedOf l) × (codedOf l ≤ length (now to)) ⌝ }
     ensures { λ _. ⌜ now (to .exit) ≡ carried l back (now (from .entry)) 0 (l .rows + l .parity) (now (to .entry)) ⌝ }
@@ -213,9 +214,10 @@ fn move_groups(l: Layout, back: bool, from: &[u8], to: &mut [u8])
     }
 }
 
-// Pairs of a pass, as long as the row is below `end`. Both nibbles of a pair have one turn, and its parity row stands `apart` after its data row.
+// Pairs of a pass, as long as the row is below `end`. Both nibbles of a pair are rotated alike, and its parity row stands `apart` after its
+// data row.
 fn move_run(
-    l: Layout,
+    l: Shape,
     start: Run,
     end: usize,
     apart: usize,
@@ -233,17 +235,17 @@ fn move_run(
     let mut nibble = start.nibble;
     let mut row = start.row;
     while row < end {
-        let turn = (nibble / 2 % 4) as u32;
-        move_word(nibble, turn, row * 4, back, from, to);
-        move_word(nibble + 1, turn, (apart + row) * 4, back, from, to);
+        let rotation = (nibble / 2 % 4) as u32;
+        move_word(nibble, rotation, row * 4, back, from, to);
+        move_word(nibble + 1, rotation, (apart + row) * 4, back, from, to);
         nibble += 2;
         row += l.step;
     }
     Run { nibble, row, pass }
 }
 
-// All nibbles of a layout of pairs. The parity rows of a pass go past the end once, and then on from the first row.
-fn move_pairs(l: Layout, back: bool, from: &[u8], to: &mut [u8])
+// All nibbles of a shape of pairs. The parity rows of a pass go past the end once, and then on from the first row.
+fn move_pairs(l: Shape, back: bool, from: &[u8], to: &mut [u8])
     requires { ⌜ (Sound l) × (Small l) × (Near l) × (Paired l) × (length (now from) ≡ codedOf l) × (codedOf l ≤ length (now to)) ⌝ }
     ensures { λ _. ⌜ now (to .exit) ≡ carried l back (now (from .entry)) 0 (l .rows + l .parity) (now (to .entry)) ⌝ }
 {
@@ -270,7 +272,7 @@ fn move_bits(kind: usize, rate: usize, back: bool, from: &[u8], to: &mut [u8])
     ensures { λ _. ⌜ now (to .exit) ≡ stored (codedBits kind rate) (target back (rowPlace kind rate))
         (λ i. getD (now (from .entry)) (origin back (rowPlace kind rate) i) 0) (now (to .entry)) ⌝ }
 {
-    let l = layout_of(kind, rate);
+    let l = shape_of(kind, rate);
     if l.continuous {
         move_groups(l, back, from, to);
     } else if back {
@@ -285,16 +287,16 @@ pub fn coded_bits(kind: usize, rate: usize) -> usize
     requires { ⌜ Defined kind rate ⌝ }
     ensures { λ r. ⌜ r ≡ codedBits kind rate ⌝ }
 {
-    let l = layout_of(kind, rate);
+    let l = shape_of(kind, rate);
     (l.rows + l.parity) * 4
 }
 
 // The number of parity rows.
 pub fn parity_rows(kind: usize, rate: usize) -> usize
     requires { ⌜ Defined kind rate ⌝ }
-    ensures { λ r. ⌜ r ≡ layoutOf kind rate .parity ⌝ }
+    ensures { λ r. ⌜ r ≡ shapeOf kind rate .parity ⌝ }
 {
-    let l = layout_of(kind, rate);
+    let l = shape_of(kind, rate);
     l.parity
 }
 

@@ -13,9 +13,10 @@ use Rattle.bits.specs.Lists.{tabulate, written}
 use Rattle.bits.proofs.ListLaws.{length-tabulate, getD-tabulate, getD-written, written-part, written-all, written-ext, take-written, written-over}
 use Rattle.bits.proofs.NumberLaws.{lt-cases, row-within}
 use Rattle.card.specs.Modes.{blockBytes}
-use Rattle.pair_interleaver.specs.Interleave.{starts, interleaved, placeBy, Interleaver, exchanged, exchangedAt, interleavedBy}
-use Rattle.constituent.specs.Pairs.{pairAt, pairIn, fourFrom}
-use Rattle.pair_interleaver.specs.Gather.{digitOf, twice, placeIn, picked, byRows, exchangedByte, Gathering, Interleaving}
+use Rattle.pair_interleaver.specs.Interleave.{starts, interleaved, sourcePairBy, Interleaver, exchanged, exchangedAt, interleavedBy}
+use Rattle.constituent.specs.Pairs.{pairAt}
+use Rattle.constituent.specs.Loops.Bytes.{pairIn, fourFrom}
+use Rattle.pair_interleaver.specs.Loops.Gather.{digitOf, twice, placeIn, picked, byRows, exchangedByte, Gathering, Interleaving}
 use Rattle.constituent.proofs.PairLaws.{few-pairs, pair-lt, pair-in-byte}
 use Rattle.pair_interleaver.proofs.InterleaveLaws.{table, whole-rows}
 
@@ -213,8 +214,8 @@ module _ (l n : ℕ) (s : List ℕ) (I : Interleaver l s) (q : l ≡ 4 * n) (row
     unfolding twice
     list-at t h = ap (λ (k : List ℕ). getD k t 0) el ∙ getD-tabulate (8 * n) (twice l p) t 0 h
 
-    rows-place : (x : ℕ) → x < l → byRows places list n x ≡ p (placeBy l s x)
-    unfolding byRows placeBy
+    rows-place : (x : ℕ) → x < l → byRows places list n x ≡ p (sourcePairBy l s x)
+    unfolding byRows sourcePairBy
     rows-place x h =
         let k : getD places (x % (4 * length s)) 0 ≡ placeIn s (x % (4 * length s)) = place-at (x % (4 * length s)) (mod-lt x (omega (arith, I .some))) in
         let v : 4 * (n - x / (4 * length s) * length s) - 3 * length s + getD places (x % (4 * length s)) 0 ≡ getD s (x % length s) 0 + l - x / length s * length s =
@@ -250,9 +251,9 @@ module _ (l n : ℕ) (s : List ℕ) (I : Interleaver l s) (q : l ≡ 4 * n) (row
         e
         ∙ ap (written n (λ i. exchangedByte (getD mid i 0))) em
         ∙ written-over n n (λ i. exchangedByte (getD mid i 0)) (fourFrom (byRows places list n)) out (omega arith)
-        ∙ written-ext n (λ i. exchangedByte (getD mid i 0)) (fourFrom (interleavedBy l s p)) out (λ i b. ap exchangedByte (byte i b) ∙ exchanged-four (λ x. p (placeBy l s x)) (λ t. hp (placeBy l s t)) i)
+        ∙ written-ext n (λ i. exchangedByte (getD mid i 0)) (fourFrom (interleavedBy l s p)) out (λ i b. ap exchangedByte (byte i b) ∙ exchanged-four (λ x. p (sourcePairBy l s x)) (λ t. hp (sourcePairBy l s t)) i)
       where
-        byte : (i : ℕ) → i < n → getD mid i 0 ≡ fourFrom (λ x. p (placeBy l s x)) i
+        byte : (i : ℕ) → i < n → getD mid i 0 ≡ fourFrom (λ x. p (sourcePairBy l s x)) i
         byte i b =
             ap (λ (k : List ℕ). getD k i 0) em
             ∙ getD-written n (fourFrom (byRows places list n)) out i 0 b

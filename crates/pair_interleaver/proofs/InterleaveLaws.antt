@@ -14,7 +14,7 @@ use Rattle.bits.proofs.NumberLaws.{lt-cases, mod-near}
 use Rattle.bits.proofs.RangeLaws.{at-each₂, at-each, agree, under}
 use Rattle.card.specs.Modes.{blockBytes}
 use Rattle.constituent.specs.Pairs.{pairCount}
-use Rattle.pair_interleaver.specs.Interleave.{starts16, starts72, starts136, starts264, starts520, starts, placeBy, Interleaver, place}
+use Rattle.pair_interleaver.specs.Interleave.{starts16, starts72, starts136, starts264, starts520, starts, sourcePairBy, Interleaver, sourcePair}
 
 module _ (l : ℕ) (s : List ℕ) (I : Interleaver l s) where
   -- the entry of the column of x, and what is reduced mod l
@@ -28,23 +28,23 @@ module _ (l : ℕ) (s : List ℕ) (I : Interleaver l s) where
   unfolding whole-sum
   sum-back x h = omega (arith, div-mul-le-self x (length s))
 
-  residue : (x : ℕ) → x < l → placeBy l s x % length s ≡ entry x % length s
-  unfolding placeBy entry whole-sum
+  residue : (x : ℕ) → x < l → sourcePairBy l s x % length s ≡ entry x % length s
+  unfolding sourcePairBy entry whole-sum
   residue x h =
       mod-mod-of-dvd (length s) (whole-sum x) (subst (λ (m : ℕ). length s ∣ m) (I .whole) (dvd-mul-left (length s) (l / length s)))
       ∙ sym (add-mul-mod-self-right (whole-sum x) (x / length s) (length s))
       ∙ ap (λ (m : ℕ). m % length s) (sum-back x h ∙ ap (λ (m : ℕ). entry x + m) (sym (I .whole)))
       ∙ add-mul-mod-self-right (entry x) (l / length s) (length s)
 
-  same-column : (x y : ℕ) → x < l → y < l → placeBy l s x ≡ placeBy l s y → x % length s ≡ y % length s
+  same-column : (x y : ℕ) → x < l → y < l → sourcePairBy l s x ≡ sourcePairBy l s y → x % length s ≡ y % length s
   unfolding entry
   same-column x y hx hy e =
       I .differ (x % length s) (y % length s) (mod-lt x (I .some)) (mod-lt y (I .some))
       (sym (residue x hx) ∙ ap (λ (m : ℕ). m % length s) e ∙ residue y hy)
 
   -- of two places with one image the lower row is not lower
-  ordered : (x y : ℕ) → x < l → y < l → x / length s * length s ≤ y / length s * length s → placeBy l s x ≡ placeBy l s y → x ≡ y
-  unfolding placeBy entry whole-sum
+  ordered : (x y : ℕ) → x < l → y < l → x / length s * length s ≤ y / length s * length s → sourcePairBy l s x ≡ sourcePairBy l s y → x ≡ y
+  unfolding sourcePairBy entry whole-sum
   ordered x y hx hy le e =
       let c : x % length s ≡ y % length s = same-column x y hx hy e in
       let a : entry x ≡ entry y = ap (λ (m : ℕ). getD s m 0) c in
@@ -54,8 +54,8 @@ module _ (l : ℕ) (s : List ℕ) (I : Interleaver l s) where
       omega (arith, div-add-mod' x (length s), div-add-mod' y (length s))
 
   -- I takes each place below l once
-  pub permutes : Permutes l (placeBy l s)
-  unfolding placeBy
+  pub permutes : Permutes l (sourcePairBy l s)
+  unfolding sourcePairBy
   permutes =
       record {
         below = λ x h. mod-lt _ (omega arith);
@@ -102,9 +102,9 @@ pub residues-differ : (kind : ℕ) → kind < 5 → (i j : ℕ) → i < length (
 residues-differ kind h = table kind h .differ
 
 -- I takes each place below L once, at every kind
-pub place-permutes : (kind : ℕ) → kind < 5 → Permutes (pairCount kind) (place kind)
-unfolding place
-place-permutes kind h = permutes (pairCount kind) (starts kind) (table kind h)
+pub source-pair-permutes : (kind : ℕ) → kind < 5 → Permutes (pairCount kind) (sourcePair kind)
+unfolding sourcePair
+source-pair-permutes kind h = permutes (pairCount kind) (starts kind) (table kind h)
 
 -- the tables one after the other, as the code has them, where each ends, and the one of a kind
 abbrev pub flat : List ℕ

@@ -1,3 +1,3 @@
 -- What the proofs of `pair_interleaver` share, and its theorems. Assumes nothing.
 pub mod InterleaveLaws
-pub mod GatherLaws
+mod GatherLaws

@@ -34,8 +34,8 @@ abbrev pub starts : ℕ → List ℕ
 starts kind = getD (starts16 ∷ starts72 ∷ starts136 ∷ starts264 ∷ starts520 ∷ []) kind []
 
 -- I(x) = (S(x mod N) − (x div N)·N + L) mod L, for x below L, where N is the length of S. L is added before the difference is taken.
-unfoldable pub placeBy : ℕ → List ℕ → ℕ → ℕ
-placeBy l s x = (getD s (x % length s) 0 + l - x / length s * length s) % l
+unfoldable pub sourcePairBy : ℕ → List ℕ → ℕ → ℕ
+sourcePairBy l s x = (getD s (x % length s) 0 + l - x / length s * length s) % l
 
 -- what L and S must meet: N divides L, the entries are below L, and all residues S mod N differ
 pub record Interleaver (l : ℕ) (s : List ℕ) : Type 0 where
@@ -54,11 +54,11 @@ exchangedAt x u = cond (eqb (x % 2) 0) (exchanged u) u
 
 -- output pair x of the pairs p is input pair I(x), exchanged when x is even
 unfoldable pub interleavedBy : ℕ → List ℕ → (ℕ → ℕ) → ℕ → ℕ
-interleavedBy l s p x = exchangedAt x (p (placeBy l s x))
+interleavedBy l s p x = exchangedAt x (p (sourcePairBy l s x))
 
 -- I(x) and the interleaved pairs by the kind of a block
-unfoldable pub place : ℕ → ℕ → ℕ
-place kind x = placeBy (pairCount kind) (starts kind) x
+unfoldable pub sourcePair : ℕ → ℕ → ℕ
+sourcePair kind x = sourcePairBy (pairCount kind) (starts kind) x
 
 unfoldable pub interleaved : ℕ → (ℕ → ℕ) → ℕ → ℕ
 interleaved kind p x = interleavedBy (pairCount kind) (starts kind) p x

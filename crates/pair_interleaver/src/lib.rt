@@ -7,9 +7,10 @@ ghost use lib.ListN.{length, getD};
 ghost use Rattle.bits.specs.Bits.{bitOf};
 ghost use Rattle.bits.specs.Lists.{written};
 ghost use Rattle.card.specs.Modes.{blockBytes};
-ghost use Rattle.constituent.specs.Pairs.{pairAt, fourFrom};
+ghost use Rattle.constituent.specs.Pairs.{pairAt};
+ghost use Rattle.constituent.specs.Loops.Bytes.{fourFrom};
 ghost use Rattle.pair_interleaver.specs.Interleave.{starts, exchanged, interleaved};
-ghost use Rattle.pair_interleaver.specs.Gather.{digitOf, twice, placeIn, picked, byRows, exchangedByte, SumsFit, StartsBelow, Gathering, Interleaving};
+ghost use Rattle.pair_interleaver.specs.Loops.Gather.{digitOf, twice, placeIn, picked, byRows, exchangedByte, SumsFit, StartsBelow, Gathering, Interleaving};
 
 // The tables S of all kinds, one after the other, and where each starts and ends.
 const STARTS: [u16; 133] = [
@@ -164,8 +165,8 @@ fn split(src: &[u8], base: u8, out: &mut [u8])
     }
 }
 
-// The pairs of some bytes, twice, so that a place that runs past the last pair needs no test. They are split in two steps, which the
-// compiler does sixteen at a time.
+// The pairs of some bytes, twice, so that a place that runs past the last pair needs no test. Two steps of splitting are faster than
+// one.
 fn list_twice(bytes: &[u8], out: &mut [u8])
     requires { ⌜ (length (now bytes) ≤ 520) × (8 * length (now bytes) ≤ length (now out)) ⌝ }
     ensures { λ _. ⌜ now (out .exit) ≡ written (8 * length (now (bytes .entry))) (twice (4 * length (now (bytes .entry))) (pairAt (bitOf (now (bytes .entry))))) (now (out .entry)) ⌝ }

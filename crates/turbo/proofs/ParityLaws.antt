@@ -11,16 +11,18 @@ use Rattle.bits.specs.Lists.{written}
 use Rattle.bits.proofs.ListLaws.{length-written, getD-written}
 use Rattle.bits.proofs.BitLaws.{bytes-ext, written-bits}
 use Rattle.card.specs.Modes.{blockBytes}
-use Rattle.constituent.specs.Pairs.{pairCount, pairAt, fourFrom}
+use Rattle.constituent.specs.Pairs.{pairCount, pairAt}
+use Rattle.constituent.specs.Loops.Bytes.{fourFrom}
 use Rattle.constituent.specs.Encoder.{parityAt}
-use Rattle.constituent.specs.Passes.{inTurn, Blocks}
-use Rattle.constituent.proofs.RingLaws.{parity-lt, parity-ext}
+use Rattle.constituent.specs.Loops.Passes.{multiplexed, Blocks}
+use Rattle.constituent.proofs.StateLaws.{parity-lt, parity-ext}
 use Rattle.constituent.proofs.PairLaws.{pair-lt, pair-read, four-read}
-use Rattle.constituent.proofs.PassLaws.{turn-first, turn-second, turn-lt}
-use Rattle.pair_interleaver.specs.Interleave.{place, exchangedAt, interleavedBy, interleaved}
-use Rattle.pair_interleaver.proofs.InterleaveLaws.{place-permutes}
-use Rattle.turbo.specs.Puncture.{row, keptFrom, twoRows, keptTime, keptCount}
-use Rattle.turbo.specs.Parity.{inputOf, keptBit, punctured, Inputs}
+use Rattle.constituent.proofs.PassLaws.{multiplexed-first, multiplexed-second, multiplexed-lt}
+use Rattle.pair_interleaver.specs.Interleave.{sourcePair, exchangedAt, interleavedBy, interleaved}
+use Rattle.pair_interleaver.proofs.InterleaveLaws.{source-pair-permutes}
+use Rattle.turbo.specs.Puncture.{pattern, keptTime, keptCount}
+use Rattle.turbo.specs.Loops.Keeping.{keptFrom, twoRows, punctured, Inputs}
+use Rattle.turbo.specs.Parity.{inputOf, keptBit}
 use Rattle.turbo.proofs.PunctureLaws.{time-lt, time-first, time-second, all-count, all-time}
 
 -- ---- for callers
@@ -36,9 +38,9 @@ module _ (kind : ℕ) (hk : kind < 5) (d e : ℕ → ℕ) (same : (i : ℕ) → 
   pair-ext t h = rw (same (2 * t) (omega arith), same (2 * t + 1) (omega arith))
 
   input-ext : (n t : ℕ) → t < pairCount kind → inputOf kind d n t ≡ inputOf kind e n t
-  unfolding inputOf interleaved interleavedBy place
+  unfolding inputOf interleaved interleavedBy sourcePair
   input-ext zero t h = pair-ext t h
-  input-ext (suc n) t h = ap (exchangedAt t) (pair-ext (place kind t) (place-permutes kind hk .below t h))
+  input-ext (suc n) t h = ap (exchangedAt t) (pair-ext (sourcePair kind t) (source-pair-permutes kind hk .below t h))
 
   -- the kept parity bits ask only for the data bits of the block
   pub kept-ext : (rate taps i : ℕ) → i < keptCount kind rate → keptBit kind rate taps d i ≡ keptBit kind rate taps e i
@@ -122,7 +124,7 @@ rows-byte kind rate p i a c e ha hc h =
     omega (arith, q1, q2, q3, q4) ∙ byte-pairs (punctured kind rate p) i
 
 -- where all are kept they stay as they are
-punctured-all : (kind rate : ℕ) (b : ℕ → ℕ) → row rate ≡ 65535 → (i : ℕ) → i < 8 * blockBytes kind → b i ≡ punctured kind rate b i
+punctured-all : (kind rate : ℕ) (b : ℕ → ℕ) → pattern rate ≡ 65535 → (i : ℕ) → i < 8 * blockBytes kind → b i ≡ punctured kind rate b i
 unfolding punctured
 punctured-all kind rate b e i h =
     let z : 2 * (i / 2) + i % 2 ≡ i = omega arith in
@@ -131,15 +133,15 @@ punctured-all kind rate b e i h =
 module _ (kind rate taps : ℕ) (bytes second : List ℕ) (I : Inputs kind bytes second) where
   -- the parity bits of both encoders in turn
   abbrev both : ℕ → ℕ
-  both = inTurn kind taps (pairAt (bitOf bytes)) (pairAt (bitOf second))
+  both = multiplexed kind taps (pairAt (bitOf bytes)) (pairAt (bitOf second))
 
   encoder-bit : (e t : ℕ) → e < 2 → t < pairCount kind → both (2 * t + e) ≡ parityAt kind taps (inputOf kind (bitOf bytes) e) t
   unfolding inputOf
   encoder-bit zero t h l =
-      turn-first kind taps (pairAt (bitOf bytes)) (pairAt (bitOf second)) (2 * t + 0) t (omega arith)
+      multiplexed-first kind taps (pairAt (bitOf bytes)) (pairAt (bitOf second)) (2 * t + 0) t (omega arith)
       ∙ parity-ext kind taps (pairAt (bitOf bytes)) (inputOf kind (bitOf bytes) 0) (λ k b. refl) t l
   encoder-bit (suc zero) t h l =
-      turn-second kind taps (pairAt (bitOf bytes)) (pairAt (bitOf second)) (2 * t + 1) t (omega arith)
+      multiplexed-second kind taps (pairAt (bitOf bytes)) (pairAt (bitOf second)) (2 * t + 1) t (omega arith)
       ∙ parity-ext kind taps (pairAt (bitOf second)) (inputOf kind (bitOf bytes) 1) (I .held) t l
   encoder-bit (suc (suc e)) t h l = absurd (omega arith)
 
@@ -148,7 +150,7 @@ module _ (kind rate taps : ℕ) (bytes second : List ℕ) (I : Inputs kind bytes
   both-kept i h = encoder-bit (i % 2) (keptTime kind rate (i / 2)) (omega arith) (time-lt kind rate i h)
 
   -- a rate that keeps all
-  pub kept-all-bytes : (out last : List ℕ) → row rate ≡ 65535 → last ≡ written (blockBytes kind) (byteOf both) out
+  pub kept-all-bytes : (out last : List ℕ) → pattern rate ≡ 65535 → last ≡ written (blockBytes kind) (byteOf both) out
       → last ≡ written (keptCount kind rate / 8) (byteOf (keptBit kind rate taps (bitOf bytes))) out
   kept-all-bytes out last e f =
       let n : blockBytes kind ≡ keptCount kind rate / 8 = omega (arith, all-count kind rate e) in
@@ -160,7 +162,7 @@ module _ (kind rate taps : ℕ) (bytes second : List ℕ) (I : Inputs kind bytes
   -- the bits of the packed bytes are the parity bits again
   packed-bits : (was packed : List ℕ) → packed ≡ written (blockBytes kind) (byteOf both) was → (i : ℕ) → i < 8 * blockBytes kind → bitOf packed i ≡ both i
   packed-bits was packed e i h =
-      written-bits (blockBytes kind) both was packed (λ j l. turn-lt kind taps (pairAt (bitOf bytes)) (pairAt (bitOf second)) j) e i h
+      written-bits (blockBytes kind) both was packed (λ j l. multiplexed-lt kind taps (pairAt (bitOf bytes)) (pairAt (bitOf second)) j) e i h
 
   -- and what is kept of them
   pub kept-some-bytes : (was packed out last : List ℕ) → packed ≡ written (blockBytes kind) (byteOf both) was

@@ -13,7 +13,8 @@ use Rattle.bits.specs.Sums.{sum, count}
 use Rattle.bits.proofs.RangeLaws.{at-each, agree₂, agree-tests}
 use Rattle.bits.proofs.SumLaws.{count-append, count-ext, count-le, lowest-nth, nth}
 use Rattle.constituent.specs.Pairs.{pairCount}
-use Rattle.turbo.specs.Puncture.{row, kept, keptFrom, keptTime, keptCount}
+use Rattle.turbo.specs.Puncture.{pattern, kept, keptTime, keptCount}
+use Rattle.turbo.specs.Loops.Keeping.{keptFrom}
 
 -- puncturing goes by t mod 16
 kept-mod : (rate t : ℕ) → kept rate t ≡ kept rate (t % 16)
@@ -30,10 +31,10 @@ pub kept-at : (t : ℕ) → kept 1 t ≡ (eqb (t % 16) 0 || eqb (t % 16) 8)
 unfolding kept
 kept-at t = kept-mod 1 t ∙ agree-tests 16 (kept 1) (λ r. eqb r 0 || eqb r 8) tt (t % 16) (mod-lt t (lit< tt))
 
--- of every sixteen times as many are kept as the row has ones, computed at every kind and rate
-pub kept-count : (kind rate : ℕ) → kind < 5 → rate < 2 → pairCount kind / 8 * ones (row rate) ≡ keptCount kind rate
+-- of every sixteen times as many are kept as the pattern has ones, computed at every kind and rate
+pub kept-count : (kind rate : ℕ) → kind < 5 → rate < 2 → pairCount kind / 8 * ones (pattern rate) ≡ keptCount kind rate
 unfolding keptCount kept count sum ones onesIn
-kept-count = agree₂ 5 2 (λ kind rate. pairCount kind / 8 * ones (row rate)) keptCount tt
+kept-count = agree₂ 5 2 (λ kind rate. pairCount kind / 8 * ones (pattern rate)) keptCount tt
 
 -- 520 parity bits remain of the longest block at rate 16/18
 pub remain : keptCount 4 1 ≡ 520
@@ -58,18 +59,18 @@ pub kept-le : (kind rate : ℕ) → keptCount kind rate ≤ 2 * pairCount kind
 unfolding keptCount
 kept-le kind rate = omega (arith, count-le (pairCount kind) (kept rate))
 
--- ---- the places of a row
+-- ---- the places of the pattern
 
--- the zeros before the ones that a row has from a place on, as the code counts them, at every rate and place
+-- the zeros before the ones that the pattern has from a place on, as the code counts them, at every rate and place
 abbrev zeros : ℕ → ℕ → ℕ
-zeros rate from = leadingZeros 32 (row rate % (1 * 2 ^ (16 - from) % 4294967296))
+zeros rate from = leadingZeros 32 (pattern rate % (1 * 2 ^ (16 - from) % 4294967296))
 
 pub kept-from : (rate from : ℕ) → rate < 2 → from < 16 → zeros rate from - 16 ≡ keptFrom rate from
 unfolding keptFrom kept lowest leadingZeros
 kept-from = agree₂ 2 16 (λ rate from. zeros rate from - 16) keptFrom tt
 
 pub zeros-few : (rate from : ℕ) → zeros rate from ≤ 32
-zeros-few rate from = leading-le 32 (row rate % (1 * 2 ^ (16 - from) % 4294967296))
+zeros-few rate from = leading-le 32 (pattern rate % (1 * 2 ^ (16 - from) % 4294967296))
 
 pub zeros-many : (rate from : ℕ) → rate < 2 → from < 16 → 16 ≤ zeros rate from
 unfolding leadingZeros
@@ -111,7 +112,7 @@ count-row r p =
     count-append (16 * r) p (kept 1) ∙ ap₂ _+_ (count-rows r) (count-ext p (λ k. kept 1 (16 * r + k)) (kept 1) (λ k h. kept-row r k))
 
 -- the rate that does not keep all
-pub not-all : (rate : ℕ) → rate < 2 → eqb (row rate) 65535 ≡ false → rate ≡ 1
+pub not-all : (rate : ℕ) → rate < 2 → eqb (pattern rate) 65535 ≡ false → rate ≡ 1
 not-all zero h e = let z : _≡_ {A = ℕ} 0 1 = cc in absurd (omega arith)
 not-all (suc zero) h e = refl
 not-all (suc (suc rate)) h e = absurd (omega arith)
@@ -144,9 +145,9 @@ module _ (kind r : ℕ) (h : 16 * r + 16 ≤ pairCount kind) where
       let e : count t (kept 1) ≡ 2 * r + 1 = omega (arith, count-row r p, two-places .5) in
       ap (keptTime kind 1) (sym e) ∙ kept-time kind 1 t (omega (arith, two-places .1)) (kept-row r p ∙ two-places .3)
 
--- ---- a row of ones
+-- ---- a pattern of ones
 
-module _ (kind rate : ℕ) (e : row rate ≡ 65535) where
+module _ (kind rate : ℕ) (e : pattern rate ≡ 65535) where
   all-kept : (t : ℕ) → kept rate t ≡ true
   unfolding kept
   all-kept t = rw e (agree-tests 16 (λ r. eqb (bitAt (15 - r) 65535) 1) (λ r. true) tt (t % 16) (mod-lt t (lit< tt)))

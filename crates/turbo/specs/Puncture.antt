@@ -1,7 +1,7 @@
 -- Puncturing: the times t whose parity bits a rate keeps. Assumes nothing.
 use mathlib.Core.Bool.{Bool, _&&_}
 use mathlib.Core.List.{[], _∷_}
-use Prim.Native.Nat.{ℕ, _+_, _-_, _*_, _%_}
+use Prim.Native.Nat.{ℕ, _-_, _*_, _%_}
 use lib.Dec.{eqb}
 use lib.ListN.{getD}
 use Rattle.bits.specs.Bits.{bitAt}
@@ -9,21 +9,13 @@ use Rattle.bits.specs.Lists.{lowest}
 use Rattle.bits.specs.Sums.{count}
 use Rattle.constituent.specs.Pairs.{pairCount}
 
--- the rows of sixteen places, the same for p and q (000, Tables 9 and 10)
-abbrev pub row : ℕ → ℕ
-row rate = getD (0b1111111111111111 ∷ 0b1000000010000000 ∷ []) rate 0
+-- the puncturing patterns of sixteen places, the same for p and q (000, Tables 9 and 10)
+abbrev pub pattern : ℕ → ℕ
+pattern rate = getD (0b1111111111111111 ∷ 0b1000000010000000 ∷ []) rate 0
 
--- t is kept: the row has a 1 at place t mod 16, counted from the left
+-- t is kept: the pattern has a 1 at place t mod 16, counted from the left
 unfoldable pub kept : ℕ → ℕ → Bool
-kept rate t = eqb (bitAt (15 - t % 16) (row rate)) 1
-
--- the first place of a row that is kept, from a place on, or 16
-unfoldable pub keptFrom : ℕ → ℕ → ℕ
-keptFrom rate from = from + lowest (16 - from) (λ k. kept rate (from + k))
-
--- the pairs p at places a and b of two rows of sixteen from t on, in a byte
-abbrev pub twoRows : (ℕ → ℕ) → ℕ → ℕ → ℕ → ℕ
-twoRows p t a b = p (t + a) * 64 + p (t + b) * 16 + p (t + 16 + a) * 4 + p (t + 16 + b)
+kept rate t = eqb (bitAt (15 - t % 16) (pattern rate)) 1
 
 -- the time that is kept after j others
 unfoldable pub keptTime : ℕ → ℕ → ℕ → ℕ

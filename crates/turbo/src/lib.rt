@@ -9,13 +9,15 @@ ghost use lib.ListN.{length};
 ghost use Rattle.bits.specs.Bits.{bitOf, byteOf};
 ghost use Rattle.bits.specs.Lists.{written};
 ghost use Rattle.card.specs.Modes.{blockBytes};
-ghost use Rattle.constituent.specs.Pairs.{pairCount, pairAt, fourFrom};
+ghost use Rattle.constituent.specs.Pairs.{pairCount, pairAt};
+ghost use Rattle.constituent.specs.Loops.Bytes.{fourFrom};
 ghost use Rattle.pair_interleaver.specs.Interleave.{interleaved};
-ghost use Rattle.pair_interleaver.specs.Gather.{twice};
-ghost use Rattle.turbo.specs.Puncture.{row, keptFrom, twoRows, keptCount};
-ghost use Rattle.turbo.specs.Parity.{keptBit, punctured, Inputs};
+ghost use Rattle.pair_interleaver.specs.Loops.Gather.{twice};
+ghost use Rattle.turbo.specs.Puncture.{pattern, keptCount};
+ghost use Rattle.turbo.specs.Loops.Keeping.{keptFrom, twoRows, punctured, Inputs};
+ghost use Rattle.turbo.specs.Parity.{keptBit};
 
-// The puncturing row of each rate, its first place in the highest bit.
+// The puncturing pattern of each rate, its first place in the highest bit.
 const KEPT: [u16; 2] = [0b1111111111111111, 0b1000000010000000];
 
 // The pairs of a block.
@@ -26,20 +28,20 @@ fn pairs(kind: usize) -> usize
     4 * card::block_bytes(kind)
 }
 
-// The first place of a row of sixteen that is kept, from a place on, or 16.
+// The first place of the pattern that is kept, from a place on, or 16.
 fn next_kept(rate: usize, from: usize) -> usize
     requires { ⌜ (rate < 2) × (from < 16) ⌝ }
     ensures { λ r. ⌜ r ≡ keptFrom rate from ⌝ }
 {
-    let row = KEPT[rate] as u32;
-    let rest = row % (1u32 << (16 - from));
+    let pattern = KEPT[rate] as u32;
+    let rest = pattern % (1u32 << (16 - from));
     u32::leading_zeros(rest) as usize - 16
 }
 
 // Whether the parity bits of every time are kept.
 fn keeps_all(rate: usize) -> bool
     requires { ⌜ rate < 2 ⌝ }
-    ensures { λ r. ⌜ r ≡ eqb (row rate) 65535 ⌝ }
+    ensures { λ r. ⌜ r ≡ eqb (pattern rate) 65535 ⌝ }
 {
     KEPT[rate] == 65535
 }

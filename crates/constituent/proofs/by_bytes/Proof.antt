@@ -12,7 +12,7 @@ use borrow.Author.Needs.{needs}
 use Rattle.bits.specs.Lists.{written}
 use Rattle.bits.proofs.ListLaws.{written-same, length-written, getD-written, written-whole, written-over}
 use Rattle.bits.proofs.NumberLaws.{lt-cases}
-use Rattle.constituent.specs.Bytes.{byteWord}
+use Rattle.constituent.specs.Loops.Bytes.{byteWord}
 use Rattle.constituent.proofs.ByteLaws.{word-zero}
 use Rattle.constituent.proofs.by_bytes.Statement.{statement}
 use Rattle.constituent.proofs.by_bytes.Tie as tie

@@ -3,7 +3,7 @@ use mathlib.Core.Path.{_≡_, refl, ap}
 use Prim.Native.Nat.{ℕ, _+_, _-_, _*_, _/_, _%_, _^_, _≤_, _<_}
 use native.Mathlib.Omega.{arith}
 use borrow.Author.Needs.{needs}
-use Rattle.constituent.specs.Bytes.{byteWord}
+use Rattle.constituent.specs.Loops.Bytes.{byteWord}
 use Rattle.constituent.proofs.ByteLaws.{Stacked, stacked-none, stacked-fits, stacked-next, stacked-all, word-lt}
 use Rattle.constituent.proofs.by_states.Statement.{statement}
 use Rattle.constituent.proofs.by_states.Tie as tie

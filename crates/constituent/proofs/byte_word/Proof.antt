@@ -7,10 +7,9 @@ use native.Mathlib.Omega.{arith}
 use lib.Dec.{lit<}
 use borrow.Author.Needs.{needs}
 use Rattle.constituent.specs.Encoder.{parity, stateAt}
-use Rattle.constituent.specs.Pairs.{pairIn}
-use Rattle.constituent.specs.Bytes.{parities, byteWord}
+use Rattle.constituent.specs.Loops.Bytes.{parities, byteWord, pairIn}
 use Rattle.constituent.proofs.LinearLaws.{few-parities, bit-lt}
-use Rattle.constituent.proofs.RingLaws.{state-none, state-next, state-small}
+use Rattle.constituent.proofs.StateLaws.{state-none, state-next, state-small}
 use Rattle.constituent.proofs.byte_word.Statement.{statement}
 use Rattle.constituent.proofs.byte_word.Tie as tie
 use Rattle.constituent.proofs.byte_word.Lts as lts

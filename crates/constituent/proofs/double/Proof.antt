@@ -8,7 +8,7 @@ use lib.ListN.{length, getD, length-set}
 use borrow.Author.Needs.{needs}
 use Rattle.bits.specs.Lists.{written}
 use Rattle.bits.proofs.ListLaws.{written-same, getD-written, written-next, written-all}
-use Rattle.constituent.specs.Bytes.{byteWord}
+use Rattle.constituent.specs.Loops.Bytes.{byteWord}
 use Rattle.constituent.proofs.ByteLaws.{half-le, doubled-at}
 use Rattle.constituent.proofs.double.Statement.{statement}
 use Rattle.constituent.proofs.double.Tie as tie

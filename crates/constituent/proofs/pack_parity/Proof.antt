@@ -10,12 +10,12 @@ use Rattle.bits.specs.Bits.{bitOf, byteOf}
 use Rattle.bits.specs.Lists.{written}
 use Rattle.bits.proofs.ListLaws.{written-none, written-next, written-all}
 use Rattle.constituent.specs.Encoder.{stateAt, ringStart, parityAt}
-use Rattle.constituent.specs.Pairs.{pairAt, fourFrom}
-use Rattle.constituent.specs.Bytes.{byteWord, ByBytes, StatesBy, ParitiesBy}
-use Rattle.constituent.specs.Passes.{stateBy, inTurn}
-use Rattle.constituent.proofs.RingLaws.{ring-lt, parity-lt}
+use Rattle.constituent.specs.Pairs.{pairAt}
+use Rattle.constituent.specs.Loops.Bytes.{byteWord, ByBytes, StatesBy, ParitiesBy, fourFrom}
+use Rattle.constituent.specs.Loops.Passes.{stateBy, multiplexed}
+use Rattle.constituent.proofs.StateLaws.{ring-lt, parity-lt}
 use Rattle.constituent.proofs.ByteLaws.{state-turn, parity-turn}
-use Rattle.constituent.proofs.PassLaws.{four-by, turn-byte}
+use Rattle.constituent.proofs.PassLaws.{four-by, multiplexed-byte}
 use Rattle.constituent.proofs.pack_parity.Statement.{statement}
 use Rattle.constituent.proofs.pack_parity.Tie as tie
 
@@ -36,7 +36,7 @@ Inv-loop kind table bytes second out₀ states parities a₀ b₀ i₀ out a b i
     × ((taps : ℕ) → Walk kind taps states parities table bytes second a₀ b₀
     → (a ≡ stateBy taps bytes (ringStart kind taps (pairAt (bitOf bytes))) (4 * i) * 8)
     × (b ≡ stateBy taps second (ringStart kind taps (pairAt (bitOf second))) (4 * i) * 8)
-    × (out ≡ written i (byteOf (inTurn kind taps (pairAt (bitOf bytes)) (pairAt (bitOf second)))) out₀))
+    × (out ≡ written i (byteOf (multiplexed kind taps (pairAt (bitOf bytes)) (pairAt (bitOf second)))) out₀))
 
 abbrev μ-loop : tie.MeasureT-loop
 μ-loop kind table bytes second out₀ states parities a₀ b₀ i₀ out a b i = length bytes - i
@@ -203,7 +203,7 @@ loop-again c =
           let s = l .inv .4 taps w in (
             c .before .moved .ensures ∙ state-turn taps _ _ (ring-lt _ _ _ (z .pre .0 .defined)) (l .i) _ _ _ (w .after) (s .0) (word-one (g .before .before .before .before .before .before) taps w),
             c .moved2 .ensures ∙ state-turn taps _ _ (ring-lt _ _ _ (z .pre .0 .defined)) (l .i) _ _ _ (w .after) (s .1) (word-two (g .before .before .before) taps w),
-            written-next _ _ _ _ _ (s .2) (omega (arith, i .loop-test .taken, z .pre .0 .whole, z .pre .1 .1 .1)) (turn-byte _ _ _ _ (l .i) _ _ (gives-one (g .before) taps w) (gives-two g taps w)),
+            written-next _ _ _ _ _ (s .2) (omega (arith, i .loop-test .taken, z .pre .0 .whole, z .pre .1 .1 .1)) (multiplexed-byte _ _ _ _ (l .i) _ _ (gives-one (g .before) taps w) (gives-two g taps w)),
           ),
     )
 

@@ -6,7 +6,7 @@ use Rattle.bits.specs.Bits.{bitOf, byteOf}
 use Rattle.bits.specs.Lists.{written}
 use Rattle.card.specs.Modes.{blockBytes}
 use Rattle.constituent.specs.Pairs.{pairAt}
-use Rattle.constituent.specs.Passes.{inTurn}
+use Rattle.constituent.specs.Loops.Passes.{multiplexed}
 use Rattle.constituent.proofs.ByteLaws.{by-table}
 use Rattle.constituent.proofs.parity_bytes.Statement.{statement}
 use Rattle.constituent.proofs.parity_bytes.Tie as tie
@@ -39,7 +39,7 @@ returns : tie.Need-returns
 returns c =
     let z = c .before .before .before .before .before .before .before .before .before .before .before .before .before .before in
     c .before .before .pack-parity .ensures
-    ∙ ap (λ (t : ℕ). written (blockBytes (z .args .kind)) (byteOf (inTurn (z .args .kind) t (pairAt (bitOf (z .args .bytes .now))) (pairAt (bitOf (z .args .second .now))))) (z .args .out .now)) (c .before .before .before .before .before .before .before .by-states .ensures .0)
+    ∙ ap (λ (t : ℕ). written (blockBytes (z .args .kind)) (byteOf (multiplexed (z .args .kind) t (pairAt (bitOf (z .args .bytes .now))) (pairAt (bitOf (z .args .second .now))))) (z .args .out .now)) (c .before .before .before .before .before .before .before .by-states .ensures .0)
 
 pub parity-bytes-spec : {M : Type 1} → statement M
 parity-bytes-spec =

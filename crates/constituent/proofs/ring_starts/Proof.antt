@@ -5,7 +5,7 @@ use native.Mathlib.Omega.{arith}
 use lib.Dec.{lit<}
 use lib.ListN.{length}
 use Rattle.constituent.specs.Pairs.{pairCount}
-use Rattle.constituent.proofs.RingLaws.{state-lt}
+use Rattle.constituent.proofs.StateLaws.{state-lt}
 use Rattle.constituent.proofs.PairLaws.{few-pairs}
 use Rattle.constituent.proofs.PassLaws.{ring-from}
 use Rattle.constituent.proofs.ring_starts.Statement.{statement}

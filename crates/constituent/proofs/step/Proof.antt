@@ -2,7 +2,7 @@
 use Prim.Native.Nat.{_/_, _%_}
 use native.Mathlib.Omega.{arith}
 use borrow.Author.Needs.{needs}
-use Rattle.constituent.proofs.RingLaws.{gated-lt}
+use Rattle.constituent.proofs.StateLaws.{gated-lt}
 use Rattle.constituent.proofs.StepLaws.{stepped}
 use Rattle.constituent.proofs.step.Statement.{statement}
 use Rattle.constituent.proofs.step.Tie as tie

@@ -6,8 +6,8 @@ use lib.Dec.{lit<}
 use lib.ListN.{length}
 use borrow.Author.Needs.{needs}
 use Rattle.constituent.specs.Encoder.{stateAt}
-use Rattle.constituent.specs.Bytes.{byteWord, ByBytes, StatesBy}
-use Rattle.constituent.specs.Passes.{stateBy}
+use Rattle.constituent.specs.Loops.Bytes.{byteWord, ByBytes, StatesBy}
+use Rattle.constituent.specs.Loops.Passes.{stateBy}
 use Rattle.constituent.proofs.ByteLaws.{state-turn}
 use Rattle.constituent.proofs.walk.Statement.{statement}
 use Rattle.constituent.proofs.walk.Tie as tie

@@ -6,18 +6,18 @@ use borrow.Author.Needs.{needs}
 use Rattle.interleaver.proofs.coded_bits.Statement.{statement}
 use Rattle.interleaver.proofs.coded_bits.Tie as tie
 
-layout-of-requires : tie.Need-layout-of-requires
-layout-of-requires c κs = search needs
+shape-of-requires : tie.Need-shape-of-requires
+shape-of-requires c κs = search needs
 
 add-result : tie.Need-add-result
-add-result c = omega (arith, c .before .layout-of .ensures .2)
+add-result c = omega (arith, c .before .shape-of .ensures .2)
 
 mul-result : tie.Need-mul-result
-mul-result c = omega (arith, c .before .layout-of .ensures .2)
+mul-result c = omega (arith, c .before .shape-of .ensures .2)
 
 returns : tie.Need-returns
 unfolding codedBits
-returns c = ap codedOf (c .before .layout-of .ensures .0)
+returns c = ap codedOf (c .before .shape-of .ensures .0)
 
 pub coded-bits-spec : {M : Type 1} → statement M
-coded-bits-spec = tie.close (tie.spec layout-of-requires add-result mul-result returns)
+coded-bits-spec = tie.close (tie.spec shape-of-requires add-result mul-result returns)

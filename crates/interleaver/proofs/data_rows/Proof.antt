@@ -2,7 +2,7 @@
 use mathlib.Core.Path.{ap}
 use Prim.Native.Nat.{ℕ, _*_}
 use native.Mathlib.Omega.{arith}
-use Rattle.interleaver.proofs.LayoutLaws.{rows-in}
+use Rattle.interleaver.proofs.ShapeLaws.{rows-in}
 use borrow.Author.Needs.{needs}
 use Rattle.interleaver.proofs.data_rows.Statement.{statement}
 use Rattle.interleaver.proofs.data_rows.Tie as tie

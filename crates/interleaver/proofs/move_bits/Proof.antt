@@ -5,41 +5,41 @@ use native.Mathlib.Omega.{arith}
 use denote.Ref.{now}
 use lib.ListN.{length}
 use Rattle.interleaver.specs.Source.{codedOf}
-use Rattle.interleaver.proofs.LayoutLaws.{coded-is}
+use Rattle.interleaver.proofs.ShapeLaws.{coded-is}
 use Rattle.interleaver.proofs.NibbleLaws.{carried-block}
 use borrow.Author.Needs.{needs}
 use Rattle.interleaver.proofs.move_bits.Statement.{statement}
 use Rattle.interleaver.proofs.move_bits.Tie as tie
 
-abbrev entry : tie.After-layout-of → tie.Start
+abbrev entry : tie.After-shape-of → tie.Start
 entry c = c .before .before .before
 
-room : (c : tie.After-layout-of)
-    → (length (now (entry c .args .from)) ≡ codedOf (c .layout-of .result)) × (codedOf (c .layout-of .result) ≤ length (now (entry c .args .to)))
+room : (c : tie.After-shape-of)
+    → (length (now (entry c .args .from)) ≡ codedOf (c .shape-of .result)) × (codedOf (c .shape-of .result) ≤ length (now (entry c .args .to)))
 room c =
     let s = entry c in
-    let e = coded-is (s .args .kind) (s .args .rate) (c .layout-of .result) (c .layout-of .ensures .0) in
+    let e = coded-is (s .args .kind) (s .args .rate) (c .shape-of .result) (c .shape-of .ensures .0) in
     (s .pre .1 ∙ sym e, omega (arith, e, s .pre .2))
 
-layout-of-requires : tie.Need-layout-of-requires
-layout-of-requires c κs = search needs
+shape-of-requires : tie.Need-shape-of-requires
+shape-of-requires c κs = search needs
 
 move-groups-requires : tie.Need-move-groups-requires
 move-groups-requires c κs =
     let a = c .before .before in
-    let l = a .layout-of .ensures in
+    let l = a .shape-of .ensures in
     (l .1, l .2, l .3, c .before .if1 .taken, room a .0, room a .1)
 
 move-pairs-requires : tie.Need-move-pairs-requires
 move-pairs-requires c κs =
     let a = c .before .before .before in
-    let l = a .layout-of .ensures in
+    let l = a .shape-of .ensures in
     (l .1, l .2, l .3, l .4 (c .before .before .if1 .left), room a .0, room a .1)
 
 move-pairs-requires-2 : tie.Need-move-pairs-requires-2
 move-pairs-requires-2 c κs =
     let a = c .before .before .before in
-    let l = a .layout-of .ensures in
+    let l = a .shape-of .ensures in
     (l .1, l .2, l .3, l .4 (c .before .before .if1 .left), room a .0, room a .1)
 
 same-length : tie.Need-same-length
@@ -49,8 +49,8 @@ returns : tie.Need-returns
 returns c =
     let a = c .before .before .before .before .before in
     let s = entry a in
-    carried-block (s .args .kind) (s .args .rate) (s .args .back) (s .args .back) (now (s .args .from)) (now (s .args .to)) _ (a .layout-of .result)
-    (a .layout-of .ensures .0) refl (c .before .before .move-groups .ensures)
+    carried-block (s .args .kind) (s .args .rate) (s .args .back) (s .args .back) (now (s .args .from)) (now (s .args .to)) _ (a .shape-of .result)
+    (a .shape-of .ensures .0) refl (c .before .before .move-groups .ensures)
 
 same-length-2 : tie.Need-same-length-2
 same-length-2 c = search needs
@@ -60,8 +60,8 @@ returns-2 c =
     let t = c .before .before .before .before in
     let a = t .before .before in
     let s = entry a in
-    carried-block (s .args .kind) (s .args .rate) (s .args .back) _ (now (s .args .from)) (now (s .args .to)) _ (a .layout-of .result)
-    (a .layout-of .ensures .0) (t .if2 .taken) (c .before .before .move-pairs .ensures)
+    carried-block (s .args .kind) (s .args .rate) (s .args .back) _ (now (s .args .from)) (now (s .args .to)) _ (a .shape-of .result)
+    (a .shape-of .ensures .0) (t .if2 .taken) (c .before .before .move-pairs .ensures)
 
 same-length-3 : tie.Need-same-length-3
 same-length-3 c = search needs
@@ -71,14 +71,14 @@ returns-3 c =
     let t = c .before .before .before .before in
     let a = t .before .before in
     let s = entry a in
-    carried-block (s .args .kind) (s .args .rate) (s .args .back) _ (now (s .args .from)) (now (s .args .to)) _ (a .layout-of .result)
-    (a .layout-of .ensures .0) (t .if2 .left) (c .before .before .move-pairs2 .ensures)
+    carried-block (s .args .kind) (s .args .rate) (s .args .back) _ (now (s .args .from)) (now (s .args .to)) _ (a .shape-of .result)
+    (a .shape-of .ensures .0) (t .if2 .left) (c .before .before .move-pairs2 .ensures)
 
 pub move-bits-spec : {M : Type 1} → statement M
 move-bits-spec =
     tie.close
     (tie.spec
-    layout-of-requires
+    shape-of-requires
     move-groups-requires
     move-pairs-requires
     move-pairs-requires-2

@@ -10,9 +10,9 @@ use lib.ListN.{length}
 use Rattle.bits.proofs.NumberLaws.{lt-cases}
 use Rattle.interleaver.specs.Rows.{passRow}
 use Rattle.interleaver.specs.Source.{dataPlace, isParity, codedOf}
-use Rattle.interleaver.specs.RowOrder.{rowOf}
-use Rattle.interleaver.specs.Stores.{carried}
-use Rattle.interleaver.specs.Walks.{OnPass, parityPlace, untilParity}
+use Rattle.interleaver.specs.Loops.RowOrder.{rowOf}
+use Rattle.interleaver.specs.Loops.Stores.{carried}
+use Rattle.interleaver.specs.Loops.Walks.{OnPass, parityPlace, untilParity}
 use Rattle.interleaver.proofs.RowLaws.{row-data}
 use Rattle.interleaver.proofs.WalkLaws.{pass-on, row-at}
 use Rattle.interleaver.proofs.StreamLaws.{data-step, data-due, stream-on}

@@ -7,8 +7,8 @@ use denote.Ref.{now}
 use lib.ListN.{length}
 use Rattle.interleaver.specs.Rows.{passes, continuousRow}
 use Rattle.interleaver.specs.Source.{dataPlace, codedOf}
-use Rattle.interleaver.specs.Stores.{carried}
-use Rattle.interleaver.specs.Walks.{Stands}
+use Rattle.interleaver.specs.Loops.Stores.{carried}
+use Rattle.interleaver.specs.Loops.Walks.{Stands}
 use Rattle.interleaver.proofs.WalkLaws.{passes-all, passes-none, continuous-start}
 use Rattle.interleaver.proofs.StreamLaws.{counts-start, stream-end}
 use Rattle.interleaver.proofs.NibbleLaws.{carried-none, carried-join}

@@ -5,7 +5,7 @@ use native.Mathlib.Omega.{arith}
 use denote.Ref.{now}
 use lib.ListN.{length}
 use Rattle.interleaver.specs.Rows.{passes}
-use Rattle.interleaver.specs.Stores.{carried}
+use Rattle.interleaver.specs.Loops.Stores.{carried}
 use Rattle.interleaver.proofs.WalkLaws.{moved-within, moved-past, passes-all, passes-none, on-start, pass-end}
 use Rattle.interleaver.proofs.PairLaws.{parity-is}
 use Rattle.interleaver.proofs.NibbleLaws.{carried-none, carried-join}

@@ -6,8 +6,8 @@ use native.Mathlib.Omega.{arith}
 use denote.Ref.{now}
 use Rattle.interleaver.specs.Rows.{movedRow}
 use Rattle.interleaver.specs.Source.{parityRow, groupOf, isParity}
-use Rattle.interleaver.specs.RowOrder.{rowOf}
-use Rattle.interleaver.specs.Walks.{parityPlace}
+use Rattle.interleaver.specs.Loops.RowOrder.{rowOf}
+use Rattle.interleaver.specs.Loops.Walks.{parityPlace}
 use Rattle.interleaver.proofs.SourceLaws.{row-continuous, parity-row-lt}
 use Rattle.interleaver.proofs.RowLaws.{row-parity}
 use Rattle.interleaver.proofs.WalkLaws.{continuous-next}

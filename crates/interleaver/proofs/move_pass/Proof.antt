@@ -9,8 +9,8 @@ use denote.Ref.{now}
 use lib.ListN.{length}
 use Rattle.interleaver.specs.Rows.{passRow, continuousRow}
 use Rattle.interleaver.specs.Source.{dataPlace}
-use Rattle.interleaver.specs.Stores.{carried}
-use Rattle.interleaver.specs.Walks.{OnPass, Stands}
+use Rattle.interleaver.specs.Loops.Stores.{carried}
+use Rattle.interleaver.specs.Loops.Walks.{OnPass, Stands}
 use Rattle.interleaver.proofs.WalkLaws.{on-start, pass-end, row-at}
 use Rattle.interleaver.proofs.StreamLaws.{until-le, parity-passed, stream-on}
 use Rattle.interleaver.proofs.NibbleLaws.{carried-none, carried-join}

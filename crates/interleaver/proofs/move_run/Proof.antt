@@ -6,11 +6,11 @@ use native.Mathlib.Omega.{arith}
 use denote.Ref.{now}
 use lib.ListN.{length}
 use Rattle.interleaver.specs.Source.{codedOf}
-use Rattle.interleaver.specs.RowOrder.{rowOf}
-use Rattle.interleaver.specs.Stores.{carried}
-use Rattle.interleaver.specs.Walks.{Runs}
+use Rattle.interleaver.specs.Loops.RowOrder.{rowOf}
+use Rattle.interleaver.specs.Loops.Stores.{carried}
+use Rattle.interleaver.specs.Loops.Walks.{Runs}
 use Rattle.interleaver.proofs.WalkLaws.{pass-on}
-use Rattle.interleaver.proofs.PairLaws.{Pair, parity-is, pair-at, same-turn}
+use Rattle.interleaver.proofs.PairLaws.{Pair, parity-is, pair-at, same-rotation}
 use Rattle.interleaver.proofs.NibbleLaws.{carried-none, carried-join, carried-one}
 use Rattle.interleaver.proofs.move_run.Statement.{statement}
 use Rattle.interleaver.proofs.move_run.Tie as tie
@@ -57,8 +57,8 @@ loop-holds c =
       carried-none (s .args .l) (s .args .back) (now (s .args .from)) (s .args .start .nibble) (now (s .args .to)),
     )
 
-cast-turn : tie.Need-cast-turn Inv-loop μ-loop
-cast-turn c = omega arith
+cast-rotation : tie.Need-cast-rotation Inv-loop μ-loop
+cast-rotation c = omega arith
 
 mul-move-word : tie.Need-mul-move-word Inv-loop μ-loop
 mul-move-word c = omega (arith, within c .2, entry c .pre .1)
@@ -94,7 +94,7 @@ move-word-requires-2 c κs =
     let (coded, n, row, first) = within t in
     let room : codedOf (s .args .l) ≤ length (m .move-word .last .1 .1 .1 .1 .1 .0) =
     omega (arith, s .pre .7, t .before .loop .inv .3, m .move-word .kept .1 .1 .1 .1 .1 .0) in
-    (same-turn _ (t .before .loop .inv .0 .place) (t .before .loop .inv .0 .nibble-is), omega (arith, s .pre .6), omega arith, omega (arith, s .pre .6), omega arith)
+    (same-rotation _ (t .before .loop .inv .0 .place) (t .before .loop .inv .0 .nibble-is), omega (arith, s .pre .6), omega arith, omega (arith, s .pre .6), omega arith)
 
 add-nibble : tie.Need-add-nibble Inv-loop μ-loop
 add-nibble c =
@@ -158,7 +158,7 @@ move-run-spec =
     Inv-loop
     μ-loop
     loop-holds
-    cast-turn
+    cast-rotation
     mul-move-word
     move-word-requires
     add-move-word

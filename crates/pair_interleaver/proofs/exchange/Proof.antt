@@ -2,7 +2,7 @@
 use mathlib.Core.Path.{ap₂, _∙_}
 use Prim.Native.Nat.{ℕ, _+_, _*_, _/_, _%_}
 use borrow.Author.Needs.{needs}
-use Rattle.pair_interleaver.specs.Gather.{exchangedByte}
+use Rattle.pair_interleaver.specs.Loops.Gather.{exchangedByte}
 use Rattle.pair_interleaver.proofs.exchange.Statement.{statement}
 use Rattle.pair_interleaver.proofs.exchange.Tie as tie
 

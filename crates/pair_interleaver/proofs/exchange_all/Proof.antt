@@ -7,7 +7,7 @@ use lib.ListN.{length, getD, length-set}
 use borrow.Author.Needs.{needs}
 use Rattle.bits.specs.Lists.{written}
 use Rattle.bits.proofs.ListLaws.{getD-kept, written-none, written-next, written-all}
-use Rattle.pair_interleaver.specs.Gather.{exchangedByte}
+use Rattle.pair_interleaver.specs.Loops.Gather.{exchangedByte}
 use Rattle.pair_interleaver.proofs.exchange_all.Statement.{statement}
 use Rattle.pair_interleaver.proofs.exchange_all.Tie as tie
 

@@ -6,8 +6,8 @@ use lib.ListN.{length, getD, length-set}
 use borrow.Author.Needs.{needs}
 use Rattle.bits.specs.Lists.{written}
 use Rattle.bits.proofs.ListLaws.{written-none, written-next, written-all}
-use Rattle.constituent.specs.Pairs.{fourFrom}
-use Rattle.pair_interleaver.specs.Gather.{picked}
+use Rattle.constituent.specs.Loops.Bytes.{fourFrom}
+use Rattle.pair_interleaver.specs.Loops.Gather.{picked}
 use Rattle.pair_interleaver.proofs.gather.Statement.{statement}
 use Rattle.pair_interleaver.proofs.gather.Tie as tie
 

@@ -8,8 +8,8 @@ use borrow.Author.Needs.{needs}
 use Rattle.bits.specs.Lists.{written}
 use Rattle.bits.proofs.ListLaws.{length-written, written-none, written-part, written-all}
 use Rattle.bits.proofs.NumberLaws.{row-next}
-use Rattle.constituent.specs.Pairs.{fourFrom}
-use Rattle.pair_interleaver.specs.Gather.{picked, byRows}
+use Rattle.constituent.specs.Loops.Bytes.{fourFrom}
+use Rattle.pair_interleaver.specs.Loops.Gather.{picked, byRows}
 use Rattle.pair_interleaver.proofs.GatherLaws.{next-row, base-le, place-lt, gathering, rows-byte}
 use Rattle.pair_interleaver.proofs.interleave.Statement.{statement}
 use Rattle.pair_interleaver.proofs.interleave.Tie as tie

@@ -1,7 +1,7 @@
 -- `pair_interleaver::pick` meets its contract. Assumes nothing.
 use mathlib.Core.Path.{refl}
 use borrow.Author.Needs.{needs}
-use Rattle.pair_interleaver.specs.Gather.{picked}
+use Rattle.pair_interleaver.specs.Loops.Gather.{picked}
 use Rattle.pair_interleaver.proofs.pick.Statement.{statement}
 use Rattle.pair_interleaver.proofs.pick.Tie as tie
 

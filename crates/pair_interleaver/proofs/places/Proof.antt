@@ -8,7 +8,7 @@ use borrow.Author.Needs.{needs}
 use Rattle.bits.specs.Lists.{written}
 use Rattle.bits.proofs.NumberLaws.{row-next}
 use Rattle.bits.proofs.ListLaws.{length-written, written-none, written-part, written-all}
-use Rattle.pair_interleaver.specs.Gather.{placeIn}
+use Rattle.pair_interleaver.specs.Loops.Gather.{placeIn}
 use Rattle.pair_interleaver.proofs.GatherLaws.{row-sum, row-place}
 use Rattle.pair_interleaver.proofs.places.Statement.{statement}
 use Rattle.pair_interleaver.proofs.places.Tie as tie

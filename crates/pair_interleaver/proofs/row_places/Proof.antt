@@ -6,7 +6,7 @@ use native.Mathlib.Omega.{arith}
 use lib.ListN.{length}
 use borrow.Author.Needs.{needs}
 use Rattle.bits.specs.Lists.{written}
-use Rattle.pair_interleaver.specs.Gather.{placeIn}
+use Rattle.pair_interleaver.specs.Loops.Gather.{placeIn}
 use Rattle.pair_interleaver.proofs.InterleaveLaws.{cut-starts, end-le, end-small, few-columns, starts-below}
 use Rattle.pair_interleaver.proofs.row_places.Statement.{statement}
 use Rattle.pair_interleaver.proofs.row_places.Tie as tie

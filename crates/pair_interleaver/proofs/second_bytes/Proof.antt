@@ -7,7 +7,7 @@ use borrow.Author.Needs.{needs}
 use Rattle.bits.specs.Lists.{written}
 use Rattle.bits.proofs.ListLaws.{length-written}
 use Rattle.pair_interleaver.specs.Interleave.{starts}
-use Rattle.pair_interleaver.specs.Gather.{placeIn}
+use Rattle.pair_interleaver.specs.Loops.Gather.{placeIn}
 use Rattle.pair_interleaver.proofs.InterleaveLaws.{few-columns}
 use Rattle.constituent.proofs.PairLaws.{few-pairs}
 use Rattle.pair_interleaver.proofs.GatherLaws.{places-long, list-long, second-asked, second-done}

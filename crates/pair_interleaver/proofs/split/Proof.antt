@@ -6,7 +6,7 @@ use lib.ListN.{length, length-set}
 use borrow.Author.Needs.{needs}
 use Rattle.bits.specs.Lists.{written}
 use Rattle.bits.proofs.ListLaws.{written-none, written-two, written-all}
-use Rattle.pair_interleaver.specs.Gather.{digitOf}
+use Rattle.pair_interleaver.specs.Loops.Gather.{digitOf}
 use Rattle.pair_interleaver.proofs.GatherLaws.{digit-even, digit-odd}
 use Rattle.pair_interleaver.proofs.split.Statement.{statement}
 use Rattle.pair_interleaver.proofs.split.Tie as tie

@@ -9,8 +9,7 @@ use Rattle.bits.specs.Lists.{written}
 use Rattle.bits.proofs.ListLaws.{written-none, written-next, written-all}
 use Rattle.constituent.specs.Pairs.{pairCount}
 use Rattle.constituent.proofs.PairLaws.{few-pairs}
-use Rattle.turbo.specs.Puncture.{keptFrom}
-use Rattle.turbo.specs.Parity.{punctured}
+use Rattle.turbo.specs.Loops.Keeping.{keptFrom, punctured}
 use Rattle.turbo.proofs.PunctureLaws.{rows-in-block, places-lt}
 use Rattle.turbo.proofs.ParityLaws.{rows-byte}
 use Rattle.turbo.proofs.keep.Statement.{statement}

@@ -5,7 +5,7 @@ use lib.Count.{ones, onesIn}
 use borrow.Author.Needs.{needs}
 use Rattle.bits.proofs.RangeLaws.{under, under₂}
 use Rattle.constituent.specs.Pairs.{pairCount}
-use Rattle.turbo.specs.Puncture.{row}
+use Rattle.turbo.specs.Puncture.{pattern}
 use Rattle.turbo.proofs.PunctureLaws.{kept-count}
 use Rattle.turbo.proofs.kept_count.Statement.{statement}
 use Rattle.turbo.proofs.kept_count.Tie as tie
@@ -18,7 +18,7 @@ array-read-ones c = search needs
 
 cast-ones : tie.Need-cast-ones
 unfolding ones onesIn
-cast-ones c = record { fits = under 2 (2 ^ 64) (λ rate. ones (row rate)) tt (c .args .rate) (c .pre .1) }
+cast-ones c = record { fits = under 2 (2 ^ 64) (λ rate. ones (pattern rate)) tt (c .args .rate) (c .pre .1) }
 
 pairs-requires : tie.Need-pairs-requires
 pairs-requires c κs = search needs
@@ -27,13 +27,13 @@ mul-result : tie.Need-mul-result
 unfolding ones onesIn
 mul-result c =
     let z = c .before in
-    let h = under₂ 5 2 (2 ^ 64) (λ kind rate. pairCount kind / 8 * ones (row rate)) tt (z .args .kind) (z .args .rate) (z .pre .0) (z .pre .1) in
+    let h = under₂ 5 2 (2 ^ 64) (λ kind rate. pairCount kind / 8 * ones (pattern rate)) tt (z .args .kind) (z .args .rate) (z .pre .0) (z .pre .1) in
     rw (c .pairs .ensures) (record { fits = h })
 
 returns : tie.Need-returns
 returns c =
     let z = c .before in
-    ap (λ (n : ℕ). n / 8 * ones (row (z .args .rate))) (c .pairs .ensures) ∙ kept-count (z .args .kind) (z .args .rate) (z .pre .0) (z .pre .1)
+    ap (λ (n : ℕ). n / 8 * ones (pattern (z .args .rate))) (c .pairs .ensures) ∙ kept-count (z .args .kind) (z .args .rate) (z .pre .0) (z .pre .1)
 
 pub kept-count-spec : {M : Type 1} → statement M
 kept-count-spec =

@@ -8,7 +8,7 @@ use borrow.Author.Needs.{needs}
 use Rattle.bits.proofs.ListLaws.{length-written}
 use Rattle.card.specs.Modes.{blockBytes}
 use Rattle.constituent.proofs.PairLaws.{few-pairs}
-use Rattle.turbo.specs.Puncture.{row}
+use Rattle.turbo.specs.Puncture.{pattern}
 use Rattle.turbo.proofs.PunctureLaws.{all-count, not-all}
 use Rattle.turbo.proofs.ParityLaws.{blocks, kept-all-bytes, kept-some-bytes}
 use Rattle.turbo.proofs.kept_parity.Statement.{statement}
@@ -17,9 +17,9 @@ use Rattle.turbo.proofs.kept_parity.Tie as tie
 keeps-all-requires : tie.Need-keeps-all-requires
 keeps-all-requires c κs = search needs
 
--- on the first branch the row has only ones
-ones : (c : tie.Then1) → row (c .before .before .before .before .before .args .rate) ≡ 65535
-ones c = eqb-true (row (c .before .before .before .before .before .args .rate)) 65535 (sym (c .before .keeps-all .ensures) ∙ c .if1 .taken)
+-- on the first branch the pattern has only ones
+ones : (c : tie.Then1) → pattern (c .before .before .before .before .before .args .rate) ≡ 65535
+ones c = eqb-true (pattern (c .before .before .before .before .before .args .rate)) 65535 (sym (c .before .keeps-all .ensures) ∙ c .if1 .taken)
 
 parity-bytes-requires : tie.Need-parity-bytes-requires
 parity-bytes-requires c κs =

@@ -2,19 +2,19 @@
 use native.Mathlib.Omega.{arith}
 use borrow.Author.Needs.{needs}
 use Rattle.bits.proofs.RangeLaws.{under}
-use Rattle.turbo.specs.Puncture.{row}
+use Rattle.turbo.specs.Puncture.{pattern}
 use Rattle.turbo.proofs.PunctureLaws.{kept-from, zeros-few, zeros-many, rest-some}
 use Rattle.turbo.proofs.next_kept.Statement.{statement}
 use Rattle.turbo.proofs.next_kept.Tie as tie
 
-mul-row : tie.Need-mul-row
-mul-row c = search needs
+mul-pattern : tie.Need-mul-pattern
+mul-pattern c = search needs
 
-array-read-row : tie.Need-array-read-row
-array-read-row c = search needs
+array-read-pattern : tie.Need-array-read-pattern
+array-read-pattern c = search needs
 
-cast-row : tie.Need-cast-row
-cast-row c = record { fits = under 2 4294967296 row tt (c .args .rate) (c .pre .0) }
+cast-pattern : tie.Need-cast-pattern
+cast-pattern c = record { fits = under 2 4294967296 pattern tt (c .args .rate) (c .pre .0) }
 
 sub-rest : tie.Need-sub-rest
 sub-rest c = search needs
@@ -41,9 +41,9 @@ pub next-kept-spec : {M : Type 1} → statement M
 next-kept-spec =
     tie.close
     (tie.spec
-    mul-row
-    array-read-row
-    cast-row
+    mul-pattern
+    array-read-pattern
+    cast-pattern
     sub-rest
     cast-rest
     shl-rest

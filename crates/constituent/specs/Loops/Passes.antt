@@ -11,9 +11,9 @@ use Rattle.constituent.specs.declared.States.{States}
 use Rattle.constituent.specs.Pairs.{pairAt}
 use Rattle.constituent.specs.Encoder.{stateAt, ringStart, parityAt}
 
--- the parity bits of two encoders in turn: for each time that of the pairs p, and then that of the pairs q
-unfoldable pub inTurn : ℕ → ℕ → (ℕ → ℕ) → (ℕ → ℕ) → ℕ → ℕ
-inTurn kind taps p q i = parityAt kind taps (cond (eqb (i % 2) 0) p q) (i / 2)
+-- the parity bits of two encoders, multiplexed: for each time that of the pairs p, and then that of the pairs q
+unfoldable pub multiplexed : ℕ → ℕ → (ℕ → ℕ) → (ℕ → ℕ) → ℕ → ℕ
+multiplexed kind taps p q i = parityAt kind taps (cond (eqb (i % 2) 0) p q) (i / 2)
 
 -- what both encoders go over: a block's bytes each
 pub record Blocks (kind : ℕ) (bytes second : List ℕ) : Type 0 where

@@ -1,5 +1,4 @@
--- The pair interleaver a byte at a time: the block's pairs are listed twice and read off four rows at a time. Only loops cite it. Assumes
--- nothing.
+-- The pair interleaver a byte at a time: the block's pairs are listed twice and read off four rows at a time. Assumes nothing.
 use mathlib.Core.Path.{_≡_}
 use mathlib.Core.Bool.{cond}
 use mathlib.Core.List.{List}

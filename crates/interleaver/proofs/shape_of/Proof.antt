@@ -1,14 +1,15 @@
--- `interleaver::layout_of` meets its contract. Assumes nothing.
+-- `interleaver::shape_of` meets its contract. Assumes nothing.
 use mathlib.Core.Path.{_≡_, ap, subst, sym}
 use Prim.Native.Nat.{_+_, _/_}
 use lib.Dec.{eqb}
 use lib.ListN.{getD}
-use Rattle.interleaver.specs.declared.Layout.{Layout}
-use Rattle.interleaver.specs.Layouts.{Sound, Small, Near, Paired, layoutOf, offsets, steps, groups, leads}
-use Rattle.interleaver.proofs.LayoutLaws.{group-in, sound-of, small-of, near-of, paired-of}
+use Rattle.interleaver.specs.declared.Shape.{Shape}
+use Rattle.interleaver.specs.Shapes.{shapeOf, offsets, steps, groups, leads}
+use Rattle.interleaver.specs.Loops.Bounds.{Sound, Small, Near, Paired}
+use Rattle.interleaver.proofs.ShapeLaws.{group-in, sound-of, small-of, near-of, paired-of}
 use borrow.Author.Needs.{needs}
-use Rattle.interleaver.proofs.layout_of.Statement.{statement}
-use Rattle.interleaver.proofs.layout_of.Tie as tie
+use Rattle.interleaver.proofs.shape_of.Statement.{statement}
+use Rattle.interleaver.proofs.shape_of.Tie as tie
 
 data-rows-requires : tie.Need-data-rows-requires
 data-rows-requires c κs = search needs
@@ -50,7 +51,7 @@ returns : tie.Need-returns
 returns c =
     let kind = c .before .args .kind in
     let rate = c .before .args .rate in
-    let e : _≡_ {A = Layout} _ (layoutOf kind rate) =
+    let e : _≡_ {A = Shape} _ (shapeOf kind rate) =
     ap (λ rows.
     record {
       rows = rows;
@@ -70,8 +71,8 @@ returns c =
       λ t. subst Paired (sym e) (paired-of kind rate d t),
     )
 
-pub layout-of-spec : {M : Type 1} → statement M
-layout-of-spec =
+pub shape-of-spec : {M : Type 1} → statement M
+shape-of-spec =
     tie.close
     (tie.spec
     data-rows-requires

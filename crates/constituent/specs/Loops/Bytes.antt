@@ -1,11 +1,18 @@
--- The encoders a byte at a time: four pairs in one step. Only loops cite it. Assumes nothing.
+-- The encoders a byte at a time: four pairs in one step. Assumes nothing.
 use mathlib.Core.Path.{_≡_}
 use mathlib.Core.List.{List}
-use Prim.Native.Nat.{ℕ, zero, suc, _+_, _*_, _/_, _%_, _^_, _<_}
+use Prim.Native.Nat.{ℕ, zero, suc, _+_, _-_, _*_, _/_, _%_, _^_, _<_}
 use lib.ListN.{length, getD}
 use Rattle.constituent.specs.declared.Rows.{Rows}
-use Rattle.constituent.specs.Pairs.{pairIn}
 use Rattle.constituent.specs.Encoder.{parity, stateAt}
+
+-- pair j of a byte
+abbrev pub pairIn : ℕ → ℕ → ℕ
+pairIn b j = b / 2 ^ (6 - 2 * j) % 4
+
+-- four pairs from 4 i on, in a byte
+abbrev pub fourFrom : (ℕ → ℕ) → ℕ → ℕ
+fourFrom p i = p (4 * i) * 64 + p (4 * i + 1) * 16 + p (4 * i + 2) * 4 + p (4 * i + 3)
 
 -- the parity bits of the first n of the pairs p from the state s, as digits to the base four
 unfoldable pub parities : ℕ → (ℕ → ℕ) → ℕ → ℕ → ℕ

@@ -1,4 +1,4 @@
--- The layouts of the table are sound and small. Assumes nothing.
+-- The shapes of the table are sound and small. Assumes nothing.
 use mathlib.Core.Path.{_≡_, ap}
 use mathlib.Core.Bool.{false}
 use Prim.Native.Nat.{ℕ, zero, suc, _+_, _*_, _/_, _<_, _≤_}
@@ -10,9 +10,10 @@ use Rattle.bits.specs.Ranges.{allBelow}
 use Rattle.bits.proofs.NumberLaws.{lt-cases}
 use Rattle.bits.proofs.RangeLaws.{at-each, agree₂, under, under₂}
 use Rattle.card.specs.Modes.{blockBytes, Defined}
-use Rattle.interleaver.specs.declared.Layout.{Layout}
+use Rattle.interleaver.specs.declared.Shape.{Shape}
 use Rattle.interleaver.specs.Source.{codedOf, codedBits}
-use Rattle.interleaver.specs.Layouts.{Sound, Small, Near, Paired, offsets, steps, groups, leads, layoutOf}
+use Rattle.interleaver.specs.Shapes.{offsets, steps, groups, leads, shapeOf}
+use Rattle.interleaver.specs.Loops.Bounds.{Sound, Small, Near, Paired}
 
 pub rows-in : (kind : ℕ) → kind < 5 → blockBytes kind * 2 < 65536
 rows-in = under 5 65536 (λ k. blockBytes k * 2) tt
@@ -25,7 +26,7 @@ module _ (kind rate : ℕ) (D : Defined kind rate) where
   pub group-in : zero < getD groups rate 0
   group-in = ltb→lt 0 (getD groups rate 0) (at-each 2 (λ r. ltb 0 (getD groups r 0)) tt rate (D .rate-lt))
 
-  pub sound-of : Sound (layoutOf kind rate)
+  pub sound-of : Sound (shapeOf kind rate)
   sound-of =
       record {
         step-pos = ltb→lt 0 (getD steps (kind + rate) 0) (at-each 6 (λ m. ltb 0 (getD steps m 0)) tt (kind + rate) row-lt);
@@ -35,7 +36,7 @@ module _ (kind rate : ℕ) (D : Defined kind rate) where
         continuous-ok = λ e. let r = eqb-true rate 1 e in let k = D .high-rate r in (71, 6, rw (r, k));
       }
 
-  pub small-of : Small (layoutOf kind rate)
+  pub small-of : Small (shapeOf kind rate)
   small-of =
       record {
         rows-lt = rows-in kind (D .kind-lt);
@@ -45,7 +46,7 @@ module _ (kind rate : ℕ) (D : Defined kind rate) where
         group-lt = under 2 65536 (λ r. getD groups r 0) tt rate (D .rate-lt);
       }
 
-pub near-of : (kind rate : ℕ) → Defined kind rate → Near (layoutOf kind rate)
+pub near-of : (kind rate : ℕ) → Defined kind rate → Near (shapeOf kind rate)
 near-of kind rate D =
     record {
       step-le = within (λ k r. getD steps (k + r) 0) tt tt;
@@ -61,12 +62,12 @@ near-of kind rate D =
         rw r (leb→le (f kind 0) (blockBytes kind * 2 / 1) (at-each 5 (λ k. leb (f k 0) (blockBytes k * 2 / 1)) t kind (D .kind-lt))))
         (λ h. let r : rate ≡ 1 = omega arith in let k = D .high-rate r in rw (r, k) (leb→le (f 4 1) 130 u))
 
-pub paired-of : (kind rate : ℕ) → Defined kind rate → eqb rate 1 ≡ false → Paired (layoutOf kind rate)
+pub paired-of : (kind rate : ℕ) → Defined kind rate → eqb rate 1 ≡ false → Paired (shapeOf kind rate)
 paired-of kind rate D t =
     let apart = eqb-false rate 1 t in
     let r : rate ≡ 0 = omega (arith, D .rate-lt) in
     record { group-is = rw r; lead-is = rw r; in-passes = t }
 
-pub coded-is : (kind rate : ℕ) (L : Layout) → L ≡ layoutOf kind rate → codedOf L ≡ codedBits kind rate
+pub coded-is : (kind rate : ℕ) (L : Shape) → L ≡ shapeOf kind rate → codedOf L ≡ codedBits kind rate
 unfolding codedBits
 coded-is kind rate L e = ap codedOf e
