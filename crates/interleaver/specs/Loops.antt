@@ -3,3 +3,4 @@ pub mod Bounds
 pub mod RowOrder
 pub mod Stores
 pub mod Walks
+pub mod Moving

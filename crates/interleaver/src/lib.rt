@@ -3,18 +3,19 @@
 //
 // Internal: nothing here is a public entry. A function with a `requires` is called only where its caller has shown it.
 ghost use mathlib.Core.Path.{_≡_};
-ghost use mathlib.Core.Bool.{true, false, cond};
-ghost use Prim.Native.Nat.{ℕ, _+_, _*_, _/_, _%_, _<_, _≤_, min};
+ghost use mathlib.Core.Bool.{false, cond};
+ghost use Prim.Native.Nat.{_+_, _*_, _/_, _%_, _<_, _≤_, min};
 ghost use lib.ListN.{length, getD};
 ghost use Rattle.bits.specs.Lists.{written};
 ghost use Rattle.card.specs.Modes.{blockBytes, Defined};
 ghost use Rattle.interleaver.specs.Rows.{passes, movedRow};
 ghost use Rattle.interleaver.specs.Shapes.{shapeOf};
 ghost use Rattle.interleaver.specs.Loops.Bounds.{Sound, Small, Near, Paired};
-ghost use Rattle.interleaver.specs.Source.{isParity, dataPlace, column, codedOf, codedBits, codedAt};
+ghost use Rattle.interleaver.specs.Source.{isParity, dataPlace, column, codedBits, codedAt};
 ghost use Rattle.interleaver.specs.Loops.RowOrder.{rowPlace, rowSource};
 ghost use Rattle.interleaver.specs.Loops.Walks.{OnPass, parityPlace, untilParity, Stands, Runs};
 ghost use Rattle.bits.specs.Loops.Words.{stored};
+ghost use Rattle.interleaver.specs.Loops.Moving.{Within, Moving, Continuous, BeforePass, DataRun, PairRun};
 ghost use Rattle.interleaver.specs.Loops.Stores.{target, origin, carried};
 
 // The shape of the interleaver at one kind and rate (000, Table 11).
@@ -93,7 +94,7 @@ fn moved_row(rows: usize, offset: usize, row: usize) -> usize
 
 // The four bits of nibble n, which is rotated by `rotation` and whose row starts at `first`, from rows to coded bits or back.
 fn move_word(n: usize, rotation: u32, first: usize, back: bool, from: &[u8], to: &mut [u8])
-    requires { ⌜ (rotation ≡ n / 2 % 4) × (n * 4 + 4 ≤ length (now from)) × (n * 4 + 4 ≤ length (now to)) × (first + 4 ≤ length (now from)) × (first + 4 ≤ length (now to)) ⌝ }
+    requires { ⌜ (rotation ≡ n / 2 % 4) × Within n first (now from) (now to) ⌝ }
     ensures { λ _. ⌜ now (to .exit) ≡ stored 4 (λ b. cond back (first + column n b) (n * 4 + b))
         (λ b. getD (now (from .entry)) (cond back (n * 4 + b) (first + column n b)) 0) (now (to .entry)) ⌝ }
 {
@@ -108,7 +109,7 @@ fn move_word(n: usize, rotation: u32, first: usize, back: bool, from: &[u8], to:
 
 // The four bits of nibble n, whose row starts at `first`, from rows to coded bits or back.
 fn move_nibble(n: usize, first: usize, back: bool, from: &[u8], to: &mut [u8])
-    requires { ⌜ (n * 4 + 4 ≤ length (now from)) × (n * 4 + 4 ≤ length (now to)) × (first + 4 ≤ length (now from)) × (first + 4 ≤ length (now to)) ⌝ }
+    requires { ⌜ Within n first (now from) (now to) ⌝ }
     ensures { λ _. ⌜ now (to .exit) ≡ stored 4 (λ b. cond back (first + column n b) (n * 4 + b))
         (λ b. getD (now (from .entry)) (cond back (n * 4 + b) (first + column n b)) 0) (now (to .entry)) ⌝ }
 {
@@ -117,8 +118,7 @@ fn move_nibble(n: usize, first: usize, back: bool, from: &[u8], to: &mut [u8])
 
 // The parity nibble that the joined stream stands at, if it stands at one, and where the stream stands after it.
 fn move_parity(l: Shape, at: Stand, back: bool, from: &[u8], to: &mut [u8]) -> Stand
-    requires { ⌜ (Sound l) × (Small l) × (Near l) × (l .continuous ≡ true) × (Stands l at) × (at .nibble < l .rows + l .parity)
-        × (length (now from) ≡ codedOf l) × (codedOf l ≤ length (now to)) ⌝ }
+    requires { ⌜ Moving l (now from) (now to) × Continuous l × Stands l at × (at .nibble < l .rows + l .parity) ⌝ }
     ensures stands { λ r. ⌜ (r .nibble ≡ at .nibble + cond (isParity l (at .nibble)) 1 0) × (Stands l r) × (0 < r .left) ⌝ }
     ensures moved { λ r. ⌜ now (to .exit) ≡ carried l back (now (from .entry)) (at .nibble) (r .nibble) (now (to .entry)) ⌝ }
 {
@@ -135,10 +135,7 @@ fn move_parity(l: Shape, at: Stand, back: bool, from: &[u8], to: &mut [u8]) -> S
 
 // Data nibbles of a pass, as long as the row is below `end`, with no parity nibble among them.
 fn move_data(l: Shape, start: Run, end: usize, back: bool, from: &[u8], to: &mut [u8]) -> Run
-    requires { ⌜ (Sound l) × (Small l) × (start .pass < l .step) × (end ≤ l .rows) × (start .nibble ≤ l .rows + l .parity)
-        × (OnPass (l .rows) (l .step) (dataPlace l (start .nibble)) (start .pass) (start .row))
-        × (end ≤ start .row + untilParity l (start .nibble) * l .step)
-        × (length (now from) ≡ codedOf l) × (codedOf l ≤ length (now to)) ⌝ }
+    requires { ⌜ Moving l (now from) (now to) × DataRun l start end ⌝ }
     ensures stands { λ r. ⌜ (start .nibble ≤ r .nibble) × (r .nibble ≤ l .rows + l .parity)
         × (OnPass (l .rows) (l .step) (dataPlace l (r .nibble)) (start .pass) (r .row)) × (end ≤ r .row)
         × (parityPlace l (r .nibble) ≡ parityPlace l (start .nibble))
@@ -165,9 +162,7 @@ fn least(a: usize, b: usize) -> usize
 
 // The data nibbles of a pass, and the parity nibbles before each of them.
 fn move_pass(l: Shape, pass: usize, start: Stand, back: bool, from: &[u8], to: &mut [u8]) -> Stand
-    requires { ⌜ (Sound l) × (Small l) × (Near l) × (l .continuous ≡ true) × (Stands l start) × (pass < l .step)
-        × (dataPlace l (start .nibble) ≡ length (passes (l .rows) (l .step) pass))
-        × (length (now from) ≡ codedOf l) × (codedOf l ≤ length (now to)) ⌝ }
+    requires { ⌜ Moving l (now from) (now to) × Continuous l × BeforePass l pass start ⌝ }
     ensures stands { λ r. ⌜ (start .nibble ≤ r .nibble) × (Stands l r)
         × (dataPlace l (r .nibble) ≡ length (passes (l .rows) (l .step) (pass + 1))) ⌝ }
     ensures moved { λ r. ⌜ now (to .exit) ≡ carried l back (now (from .entry)) (start .nibble) (r .nibble) (now (to .entry)) ⌝ }
@@ -195,8 +190,7 @@ fn move_pass(l: Shape, pass: usize, start: Stand, back: bool, from: &[u8], to: &
 
 // All nibbles of a shape whose parity rows are read on without a restart.
 fn move_groups(l: Shape, back: bool, from: &[u8], to: &mut [u8])
-    requires { ⌜ (Sound l) × (Small l) × (Near l) × (l .continuous ≡ true)
-        × (length (now from) ≡ codedOf l) × (codedOf l ≤ length (now to)) ⌝ }
+    requires { ⌜ Moving l (now from) (now to) × Continuous l ⌝ }
     ensures { λ _. ⌜ now (to .exit) ≡ carried l back (now (from .entry)) 0 (l .rows + l .parity) (now (to .entry)) ⌝ }
 {
     let mut at = Stand {
@@ -225,9 +219,7 @@ fn move_run(
     from: &[u8],
     to: &mut [u8],
 ) -> Run
-    requires { ⌜ (Sound l) × (Small l) × (Paired l) × (Runs l start) × (end ≤ l .rows)
-        × ((row : ℕ) → start .row ≤ row → row < end → apart + row ≡ l .rows + movedRow (l .rows) (l .offset) row)
-        × (length (now from) ≡ codedOf l) × (codedOf l ≤ length (now to)) ⌝ }
+    requires { ⌜ Moving l (now from) (now to) × PairRun l start end apart ⌝ }
     ensures stands { λ r. ⌜ (start .nibble ≤ r .nibble) × (Runs l r) × (r .pass ≡ start .pass) × (end ≤ r .row) ⌝ }
     ensures moved { λ r. ⌜ now (to .exit) ≡ carried l back (now (from .entry)) (start .nibble) (r .nibble) (now (to .entry)) ⌝ }
 {
@@ -246,7 +238,7 @@ fn move_run(
 
 // All nibbles of a shape of pairs. The parity rows of a pass go past the end once, and then on from the first row.
 fn move_pairs(l: Shape, back: bool, from: &[u8], to: &mut [u8])
-    requires { ⌜ (Sound l) × (Small l) × (Near l) × (Paired l) × (length (now from) ≡ codedOf l) × (codedOf l ≤ length (now to)) ⌝ }
+    requires { ⌜ Moving l (now from) (now to) × Near l × Paired l ⌝ }
     ensures { λ _. ⌜ now (to .exit) ≡ carried l back (now (from .entry)) 0 (l .rows + l .parity) (now (to .entry)) ⌝ }
 {
     let bend = l.rows - l.offset;

@@ -1,10 +1,8 @@
 -- `interleaver::move_bits` meets its contract. Assumes nothing.
-use mathlib.Core.Path.{_≡_, refl, sym, _∙_}
-use Prim.Native.Nat.{_≤_}
+use mathlib.Core.Path.{refl, sym, _∙_}
 use native.Mathlib.Omega.{arith}
 use denote.Ref.{now}
-use lib.ListN.{length}
-use Rattle.interleaver.specs.Source.{codedOf}
+use Rattle.interleaver.specs.Loops.Moving.{Moving}
 use Rattle.interleaver.proofs.ShapeLaws.{coded-is}
 use Rattle.interleaver.proofs.NibbleLaws.{carried-block}
 use borrow.Author.Needs.{needs}
@@ -14,12 +12,12 @@ use Rattle.interleaver.proofs.move_bits.Tie as tie
 abbrev entry : tie.After-shape-of → tie.Start
 entry c = c .before .before .before
 
-room : (c : tie.After-shape-of)
-    → (length (now (entry c .args .from)) ≡ codedOf (c .shape-of .result)) × (codedOf (c .shape-of .result) ≤ length (now (entry c .args .to)))
-room c =
+moving : (c : tie.After-shape-of) → Moving (c .shape-of .result) (now (entry c .args .from)) (now (entry c .args .to))
+moving c =
     let s = entry c in
-    let e = coded-is (s .args .kind) (s .args .rate) (c .shape-of .result) (c .shape-of .ensures .0) in
-    (s .pre .1 ∙ sym e, omega (arith, e, s .pre .2))
+    let l = c .shape-of .ensures in
+    let e = coded-is (s .args .kind) (s .args .rate) (c .shape-of .result) (l .0) in
+    record { sound = l .1; small = l .2; whole = s .pre .1 ∙ sym e; room = omega (arith, e, s .pre .2) }
 
 shape-of-requires : tie.Need-shape-of-requires
 shape-of-requires c κs = search needs
@@ -27,20 +25,19 @@ shape-of-requires c κs = search needs
 move-groups-requires : tie.Need-move-groups-requires
 move-groups-requires c κs =
     let a = c .before .before in
-    let l = a .shape-of .ensures in
-    (l .1, l .2, l .3, c .before .if1 .taken, room a .0, room a .1)
+    (moving a, record { near = a .shape-of .ensures .3; on = c .before .if1 .taken })
 
 move-pairs-requires : tie.Need-move-pairs-requires
 move-pairs-requires c κs =
     let a = c .before .before .before in
     let l = a .shape-of .ensures in
-    (l .1, l .2, l .3, l .4 (c .before .before .if1 .left), room a .0, room a .1)
+    (moving a, l .3, l .4 (c .before .before .if1 .left))
 
 move-pairs-requires-2 : tie.Need-move-pairs-requires-2
 move-pairs-requires-2 c κs =
     let a = c .before .before .before in
     let l = a .shape-of .ensures in
-    (l .1, l .2, l .3, l .4 (c .before .before .if1 .left), room a .0, room a .1)
+    (moving a, l .3, l .4 (c .before .before .if1 .left))
 
 same-length : tie.Need-same-length
 same-length c = search needs

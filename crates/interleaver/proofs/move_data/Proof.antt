@@ -42,21 +42,21 @@ next c =
     let l = s .args .l in
     let i = c .before .loop in
     let u = untilParity l (i .nibble) in
-    let below : i .row < l .rows = omega (arith, c .loop-test .taken, s .pre .3) in
+    let below : i .row < l .rows = omega (arith, c .loop-test .taken, s .pre .1 .end-le) in
     let some : 0 < u =
     lt-cases 0 u (λ h. h)
     (λ h. let z : u ≡ 0 = omega arith in absurd (omega (arith, c .loop-test .taken, i .inv .3, ap (λ (x : ℕ). x * l .step) z))) in
     let (row, place) =
-    row-at (l .rows) (l .step) (s .pre .0 .step-pos) (dataPlace l (i .nibble)) (s .args .start .pass) (i .row) (i .inv .2) (s .pre .2) below in
-    (some, data-due l (s .pre .0) (i .nibble) some, row, stream-on l (s .pre .0) (i .nibble) place, below)
+    row-at (l .rows) (l .step) (s .pre .0 .sound .step-pos) (dataPlace l (i .nibble)) (s .args .start .pass) (i .row) (i .inv .2) (s .pre .1 .pass-lt) below in
+    (some, data-due l (s .pre .0 .sound) (i .nibble) some, row, stream-on l (s .pre .0 .sound) (i .nibble) place, below)
 
 loop-holds : tie.Need-loop-holds Inv-loop μ-loop
 loop-holds c =
     let s = c .before .before in (
       omega arith,
-      s .pre .4,
-      s .pre .5,
-      s .pre .6,
+      s .pre .1 .within,
+      s .pre .1 .on-pass,
+      s .pre .1 .no-parity,
       refl,
       refl,
       refl,
@@ -64,30 +64,30 @@ loop-holds c =
     )
 
 mul-move-nibble : tie.Need-mul-move-nibble Inv-loop μ-loop
-mul-move-nibble c = omega (arith, next c .4, entry c .pre .1)
+mul-move-nibble c = omega (arith, next c .4, entry c .pre .0 .small)
 
 move-nibble-requires : tie.Need-move-nibble-requires Inv-loop μ-loop
 move-nibble-requires c κs =
     let t = c .before in
     let s = entry t in
     let (some, is, at, n, row) = next t in
-    let room : codedOf (s .args .l) ≤ length (t .before .loop .to) = omega (arith, s .pre .8, t .before .loop .inv .6) in
-    (omega (arith, s .pre .7), omega arith, omega (arith, s .pre .7), omega arith)
+    let room : codedOf (s .args .l) ≤ length (t .before .loop .to) = omega (arith, s .pre .0 .room, t .before .loop .inv .6) in
+    record { coded-from = omega (arith, s .pre .0 .whole); coded-to = omega arith; row-from = omega (arith, s .pre .0 .whole); row-to = omega arith }
 
 add-nibble : tie.Need-add-nibble Inv-loop μ-loop
 add-nibble c =
     let t = c .before .before .before .before in
-    omega (arith, next t .3, entry t .pre .1)
+    omega (arith, next t .3, entry t .pre .0 .small)
 
 add-row : tie.Need-add-row Inv-loop μ-loop
 add-row c =
     let t = c .before .before .before .before .before in
-    omega (arith, next t .4, entry t .pre .1)
+    omega (arith, next t .4, entry t .pre .0 .small)
 
 loop-less : tie.Need-loop-less Inv-loop μ-loop
 loop-less c =
     let t = c .before .before .before .before .before in
-    omega (arith, t .loop-test .taken, entry t .pre .0 .step-pos)
+    omega (arith, t .loop-test .taken, entry t .pre .0 .sound .step-pos)
 
 loop-again : tie.Need-loop-again Inv-loop μ-loop
 loop-again c =
@@ -100,13 +100,13 @@ loop-again c =
     let u = untilParity l n in
     let from = now (s .args .from) in
     let (some, is, at, within, below) = next t in
-    let (place, parity, left) = data-step l (s .pre .0) n is in
+    let (place, parity, left) = data-step l (s .pre .0 .sound) n is in
     let row : i .row ≡ rowOf l n = omega (arith, at, row-data l n is) in
     let on : dataPlace l n + 1 ≡ dataPlace l (n + 1) = omega arith in
     let down : untilParity l (n + 1) + 1 ≡ u = omega arith in (
       omega (arith, i .inv .0),
       omega arith,
-      rw on at (pass-on (l .rows) (l .step) (s .pre .0 .step-pos) (dataPlace l n) (s .args .start .pass) (i .row) (i .inv .2) below),
+      rw on at (pass-on (l .rows) (l .step) (s .pre .0 .sound .step-pos) (dataPlace l n) (s .args .start .pass) (i .row) (i .inv .2) below),
       omega (arith, i .inv .3, add-mul (untilParity l (n + 1)) 1 (l .step), ap (λ (y : ℕ). y * l .step) down),
       parity ∙ i .inv .4,
       omega (arith, i .inv .5, down),

@@ -6,12 +6,12 @@ use native.Mathlib.Omega.{arith}
 use denote.Ref.{now}
 use lib.ListN.{length}
 use Rattle.interleaver.specs.Rows.{passes, continuousRow}
-use Rattle.interleaver.specs.Source.{dataPlace, codedOf}
+use Rattle.interleaver.specs.Source.{dataPlace}
 use Rattle.interleaver.specs.Loops.Stores.{carried}
 use Rattle.interleaver.specs.Loops.Walks.{Stands}
 use Rattle.interleaver.proofs.WalkLaws.{passes-all, passes-none, continuous-start}
 use Rattle.interleaver.proofs.StreamLaws.{counts-start, stream-end}
-use Rattle.interleaver.proofs.NibbleLaws.{carried-none, carried-join}
+use Rattle.interleaver.proofs.NibbleLaws.{moving-on, carried-none, carried-join}
 use Rattle.interleaver.proofs.move_groups.Statement.{statement}
 use Rattle.interleaver.proofs.move_groups.Tie as tie
 
@@ -27,15 +27,15 @@ loop-holds : tie.Need-loop-holds Inv-loop μ-loop
 loop-holds c =
     let s = c .before .before in
     let l = s .args .l in
-    let (places, rows, left) = counts-start l (s .pre .0) in (
+    let (places, rows, left) = counts-start l (s .pre .0 .sound) in (
       omega arith,
       record {
         within = omega arith;
         left-is = sym left;
-        row-is = continuous-start (l .parity) (l .step) (l .offset) (s .pre .2 .offset-lt)
+        row-is = continuous-start (l .parity) (l .step) (l .offset) (s .pre .1 .near .offset-lt)
             ∙ ap (continuousRow (l .parity) (l .step) (l .offset)) (sym rows);
       },
-      places ∙ passes-none (l .rows) (l .step) (s .pre .0 .step-pos),
+      places ∙ passes-none (l .rows) (l .step) (s .pre .0 .sound .step-pos),
       refl,
       carried-none l (s .args .back) (now (s .args .from)) 0 (now (s .args .to)),
     )
@@ -43,19 +43,16 @@ loop-holds c =
 abbrev entry : tie.At-loop Inv-loop μ-loop → tie.Start Inv-loop μ-loop
 entry c = c .before .before .before
 
-room : (c : tie.At-loop Inv-loop μ-loop) → codedOf (entry c .args .l) ≤ length (c .loop .to)
-room c = omega (arith, entry c .pre .5, c .loop .inv .3)
-
 move-pass-requires : tie.Need-move-pass-requires Inv-loop μ-loop
 move-pass-requires c κs =
     let i = c .before .before .before in
     let p = entry i .pre in
-    (p .0, p .1, p .2, p .3, i .loop .inv .1, c .before .if1 .taken, i .loop .inv .2, p .4, room i)
+    (moving-on (p .0) (i .loop .inv .3), p .1, record { stands = i .loop .inv .1; pass-lt = c .before .if1 .taken; place-is = i .loop .inv .2 })
 
 add-pass : tie.Need-add-pass Inv-loop μ-loop
 add-pass c =
     let t = c .before .before .before .before in
-    omega (arith, t .if1 .taken, entry (t .before .before) .pre .1)
+    omega (arith, t .if1 .taken, entry (t .before .before) .pre .0 .small)
 
 loop-less : tie.Need-loop-less Inv-loop μ-loop
 loop-less c = omega (arith, c .before .before .before .before .if1 .taken)
@@ -75,7 +72,7 @@ loop-again c =
     )
 
 add-if2 : tie.Need-add-if2 Inv-loop μ-loop
-add-if2 c = omega (arith, entry (c .before .before .before) .pre .1)
+add-if2 c = omega (arith, entry (c .before .before .before) .pre .0 .small)
 
 -- past the last pass no data nibble is left
 done : (c : tie.Else1 Inv-loop μ-loop)
@@ -85,13 +82,13 @@ done c =
     let s = entry i in
     let l = s .args .l in
     let e : i .loop .pass ≡ l .step = omega (arith, i .loop .inv .0, c .if1 .left) in
-    i .loop .inv .2 ∙ ap (λ (j : ℕ). length (passes (l .rows) (l .step) j)) e ∙ passes-all (l .rows) (l .step) (s .pre .0 .step-pos)
+    i .loop .inv .2 ∙ ap (λ (j : ℕ). length (passes (l .rows) (l .step) j)) e ∙ passes-all (l .rows) (l .step) (s .pre .0 .sound .step-pos)
 
 move-parity-requires : tie.Need-move-parity-requires Inv-loop μ-loop
 move-parity-requires c κs =
     let i = c .before .before .before .before .before .before in
     let p = entry i .pre in
-    (p .0, p .1, p .2, p .3, i .loop .inv .1, c .before .if2 .taken, p .4, room i)
+    (moving-on (p .0) (i .loop .inv .3), p .1, i .loop .inv .1, c .before .if2 .taken)
 
 same-length : tie.Need-same-length Inv-loop μ-loop
 same-length c =
@@ -104,7 +101,7 @@ returns c =
     let i = t .before .before .before .before .before in
     let s = entry i in
     let n = i .loop .at .nibble in
-    let (is, last) = stream-end (s .args .l) (s .pre .0) n (t .if2 .taken) (done (t .before .before .before)) in
+    let (is, last) = stream-end (s .args .l) (s .pre .0 .sound) n (t .if2 .taken) (done (t .before .before .before)) in
     let e : m .result .nibble ≡ n + 1 = rw is at (m .ensures .0 .0) in
     carried-join (s .args .l) (s .args .back) (now (s .args .from)) 0 n (m .result .nibble) (now (s .args .to)) _ _ (omega arith) (omega (arith, e))
     (i .loop .inv .4) (m .ensures .1)

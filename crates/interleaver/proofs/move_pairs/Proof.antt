@@ -8,7 +8,7 @@ use Rattle.interleaver.specs.Rows.{passes}
 use Rattle.interleaver.specs.Loops.Stores.{carried}
 use Rattle.interleaver.proofs.WalkLaws.{moved-within, moved-past, passes-all, passes-none, on-start, pass-end}
 use Rattle.interleaver.proofs.PairLaws.{parity-is}
-use Rattle.interleaver.proofs.NibbleLaws.{carried-none, carried-join}
+use Rattle.interleaver.proofs.NibbleLaws.{moving-on, carried-none, carried-join}
 use Rattle.interleaver.proofs.move_pairs.Statement.{statement}
 use Rattle.interleaver.proofs.move_pairs.Tie as tie
 
@@ -22,17 +22,17 @@ abbrev μ-loop : tie.MeasureT-loop
 sub-bend : tie.Need-sub-bend Inv-loop μ-loop
 sub-bend c =
     let s = c .before .before .before in
-    omega (arith, s .pre .2 .offset-lt, parity-is (s .args .l) (s .pre .0) (s .pre .3))
+    omega (arith, s .pre .1 .offset-lt, parity-is (s .args .l) (s .pre .0 .sound) (s .pre .2))
 
 add-before : tie.Need-add-before Inv-loop μ-loop
-add-before c = omega (arith, c .before .before .before .before .pre .1)
+add-before c = omega (arith, c .before .before .before .before .pre .0 .small)
 
 loop-holds : tie.Need-loop-holds Inv-loop μ-loop
 loop-holds c =
     let s = c .before .before .before .before in
     let l = s .args .l in (
       omega arith,
-      ap (λ (k : ℕ). k * 2) (passes-none (l .rows) (l .step) (s .pre .0 .step-pos)),
+      ap (λ (k : ℕ). k * 2) (passes-none (l .rows) (l .step) (s .pre .0 .sound .step-pos)),
       refl,
       carried-none l (s .args .back) (now (s .args .from)) 0 (now (s .args .to)),
     )
@@ -46,19 +46,18 @@ move-run-requires c κs =
     let s = entry t in
     let l = s .args .l in
     let i = t .before .before .loop in (
-      s .pre .0,
-      s .pre .1,
-      s .pre .3,
+      moving-on (s .pre .0) (i .inv .2),
       record {
-        place = length (passes (l .rows) (l .step) (i .pass));
-        nibble-is = i .inv .1;
-        pass-lt = t .if1 .taken;
-        on-pass = on-start (l .rows) (l .step) (s .pre .0 .step-pos) (i .pass) (i .inv .0) (omega (arith, t .if1 .taken));
+        paired = s .pre .2;
+        runs = record {
+          place = length (passes (l .rows) (l .step) (i .pass));
+          nibble-is = i .inv .1;
+          pass-lt = t .if1 .taken;
+          on-pass = on-start (l .rows) (l .step) (s .pre .0 .sound .step-pos) (i .pass) (i .inv .0) (omega (arith, t .if1 .taken));
+        };
+        end-le = omega arith;
+        apart-is = λ row h b. omega (arith, moved-within (l .rows) (l .offset) row (omega arith));
       },
-      omega arith,
-      λ row h b. omega (arith, moved-within (l .rows) (l .offset) row (omega arith)),
-      s .pre .4,
-      omega (arith, s .pre .5, i .inv .2),
     )
 
 move-run-requires-2 : tie.Need-move-run-requires-2 Inv-loop μ-loop
@@ -69,22 +68,21 @@ move-run-requires-2 c κs =
     let l = s .args .l in
     let m = r .move-run in
     let past = m .ensures .0 .3 in
-    let near = s .pre .2 .offset-lt in
-    let same = parity-is l (s .pre .0) (s .pre .3) in (
-      s .pre .0,
-      s .pre .1,
-      s .pre .3,
-      m .ensures .0 .1,
-      omega arith,
-      λ row h b. omega (arith, moved-past (l .rows) (l .offset) row (omega arith) (omega arith)),
-      s .pre .4,
-      omega (arith, s .pre .5, t .before .before .loop .inv .2, m .kept .1 .1 .1 .1 .1 .1 .0),
+    let near = s .pre .1 .offset-lt in
+    let same = parity-is l (s .pre .0 .sound) (s .pre .2) in (
+      moving-on (s .pre .0) (m .kept .1 .1 .1 .1 .1 .1 .0 ∙ t .before .before .loop .inv .2),
+      record {
+        paired = s .pre .2;
+        runs = m .ensures .0 .1;
+        end-le = omega arith;
+        apart-is = λ row h b. omega (arith, moved-past (l .rows) (l .offset) row (omega arith) (omega arith));
+      },
     )
 
 add-pass : tie.Need-add-pass Inv-loop μ-loop
 add-pass c =
     let t = c .before .before .before .before .before .before .before .before in
-    omega (arith, t .if1 .taken, entry t .pre .1)
+    omega (arith, t .if1 .taken, entry t .pre .0 .small)
 
 loop-less : tie.Need-loop-less Inv-loop μ-loop
 loop-less c = omega (arith, c .before .before .before .before .before .before .before .before .if1 .taken)
@@ -101,7 +99,7 @@ loop-again c =
     let (up, runs, same, end) = x .ensures .0 in
     let pass : x .result .pass + 1 ≡ i .pass + 1 = ap (λ (k : ℕ). k + 1) (same ∙ m .ensures .0 .2) in
     let place =
-    pass-end (l .rows) (l .step) (s .pre .0 .step-pos) (runs .place) (x .result .pass) (x .result .row) (runs .on-pass) (runs .pass-lt) end
+    pass-end (l .rows) (l .step) (s .pre .0 .sound .step-pos) (runs .place) (x .result .pass) (x .result .row) (runs .on-pass) (runs .pass-lt) end
     ∙ ap (λ (k : ℕ). length (passes (l .rows) (l .step) k)) pass in (
       omega (arith, t .if1 .taken),
       runs .nibble-is ∙ ap (λ (k : ℕ). k * 2) place,
@@ -121,10 +119,10 @@ returns c =
     let l = s .args .l in
     let i = c .before .before .loop in
     let e : i .pass ≡ l .step = omega (arith, i .inv .0, c .if1 .left) in
-    let all = ap (λ (j : ℕ). length (passes (l .rows) (l .step) j)) e ∙ passes-all (l .rows) (l .step) (s .pre .0 .step-pos) in
+    let all = ap (λ (j : ℕ). length (passes (l .rows) (l .step) j)) e ∙ passes-all (l .rows) (l .step) (s .pre .0 .sound .step-pos) in
     i .inv .3
     ∙ ap (λ (k : ℕ). carried l (s .args .back) (now (s .args .from)) 0 k (now (s .args .to)))
-    (i .inv .1 ∙ ap (λ (k : ℕ). k * 2) all ∙ omega (arith, parity-is l (s .pre .0) (s .pre .3)))
+    (i .inv .1 ∙ ap (λ (k : ℕ). k * 2) all ∙ omega (arith, parity-is l (s .pre .0 .sound) (s .pre .2)))
 
 pub move-pairs-spec : {M : Type 1} → statement M
 move-pairs-spec =

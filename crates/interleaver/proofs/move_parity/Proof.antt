@@ -29,31 +29,36 @@ due c =
     let s = entry c in
     let l = s .args .l in
     let n = s .args .at .nibble in
-    let t : isParity l n ≡ true = parity-due l (s .pre .0) n (omega (arith, s .pre .4 .left-is)) in
+    let t : isParity l n ≡ true = parity-due l (s .pre .0 .sound) n (omega (arith, s .pre .2 .left-is)) in
     let e =
-    s .pre .4 .row-is ∙ sym (row-continuous l (parityPlace l n) (s .pre .3)) ∙ ap (parityRow l) (parity-group l (s .pre .0) n t) in
-    (t, e, omega (arith, e, parity-row-lt l (s .pre .0) n (s .pre .5)))
+    s .pre .2 .row-is ∙ sym (row-continuous l (parityPlace l n) (s .pre .1 .on)) ∙ ap (parityRow l) (parity-group l (s .pre .0 .sound) n t) in
+    (t, e, omega (arith, e, parity-row-lt l (s .pre .0 .sound) n (s .pre .3)))
 
 returns : tie.Need-returns
 returns c =
     let s = c .before .before .before .before in
     let at = s .args .at in
     let t : isParity (s .args .l) (at .nibble) ≡ false =
-    data-due (s .args .l) (s .pre .0) (at .nibble) (omega (arith, s .pre .4 .left-is)) in
-    ((rw t (omega arith), s .pre .4, c .if1 .taken), carried-none (s .args .l) (s .args .back) (now (s .args .from)) (at .nibble) (now (s .args .to)))
+    data-due (s .args .l) (s .pre .0 .sound) (at .nibble) (omega (arith, s .pre .2 .left-is)) in
+    ((rw t (omega arith), s .pre .2, c .if1 .taken), carried-none (s .args .l) (s .args .back) (now (s .args .from)) (at .nibble) (now (s .args .to)))
 
 add-move-nibble : tie.Need-add-move-nibble
-add-move-nibble c = omega (arith, due (c .before .before), entry (c .before .before) .pre .1)
+add-move-nibble c = omega (arith, due (c .before .before), entry (c .before .before) .pre .0 .small)
 
 mul-move-nibble : tie.Need-mul-move-nibble
-mul-move-nibble c = omega (arith, due (c .before .before), entry (c .before .before) .pre .1)
+mul-move-nibble c = omega (arith, due (c .before .before), entry (c .before .before) .pre .0 .small)
 
 move-nibble-requires : tie.Need-move-nibble-requires
 move-nibble-requires c κs =
     let d = c .before .before .before in
     let s = entry d in
     let row = due d .2 in
-    (omega (arith, s .pre .5, s .pre .6), omega (arith, s .pre .5, s .pre .7), omega (arith, s .pre .6), omega (arith, s .pre .7))
+    record {
+      coded-from = omega (arith, s .pre .3, s .pre .0 .whole);
+      coded-to = omega (arith, s .pre .3, s .pre .0 .room);
+      row-from = omega (arith, s .pre .0 .whole);
+      row-to = omega (arith, s .pre .0 .room);
+    }
 
 add-t8 : tie.Need-add-t8
 add-t8 c = search needs
@@ -61,7 +66,7 @@ add-t8 c = search needs
 moved-row-requires : tie.Need-moved-row-requires
 moved-row-requires c κs =
     let d = c .before .before .before .before .before .before .before in
-    (due d .2, entry d .pre .2 .step-le, entry d .pre .1 .parity-lt)
+    (due d .2, entry d .pre .1 .near .step-le, entry d .pre .0 .small .parity-lt)
 
 same-length : tie.Need-same-length
 same-length c = search needs
@@ -74,7 +79,7 @@ returns-2 c =
     let at = s .args .at in
     let n = at .nibble in
     let (t, row, below) = due d in
-    let (places, rows, left) = parity-step l (s .pre .0) n t in
+    let (places, rows, left) = parity-step l (s .pre .0 .sound) n t in
     let e : l .rows + at .row ≡ rowOf l n = omega (arith, row, row-parity l n t) in (
       (
         rw t,
@@ -82,10 +87,10 @@ returns-2 c =
           within = omega arith;
           left-is = sym left;
           row-is = rw rows
-              (c .moved-row .ensures .0 ∙ ap (movedRow (l .parity) (l .step)) (s .pre .4 .row-is)
+              (c .moved-row .ensures .0 ∙ ap (movedRow (l .parity) (l .step)) (s .pre .2 .row-is)
               ∙ continuous-next (l .parity) (l .step) (l .offset) (parityPlace l n));
         },
-        s .pre .0 .group-pos,
+        s .pre .0 .sound .group-pos,
       ),
       carried-one l (s .args .back) (now (s .args .from)) n (l .rows + at .row) (now (s .args .to)) _ e
           (c .before .before .before .before .move-nibble .ensures),

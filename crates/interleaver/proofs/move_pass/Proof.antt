@@ -13,7 +13,7 @@ use Rattle.interleaver.specs.Loops.Stores.{carried}
 use Rattle.interleaver.specs.Loops.Walks.{OnPass, Stands}
 use Rattle.interleaver.proofs.WalkLaws.{on-start, pass-end, row-at}
 use Rattle.interleaver.proofs.StreamLaws.{until-le, parity-passed, stream-on}
-use Rattle.interleaver.proofs.NibbleLaws.{carried-none, carried-join}
+use Rattle.interleaver.proofs.NibbleLaws.{moving-on, carried-none, carried-join}
 use Rattle.interleaver.proofs.move_pass.Statement.{statement}
 use Rattle.interleaver.proofs.move_pass.Tie as tie
 
@@ -29,8 +29,8 @@ loop-holds : tie.Need-loop-holds Inv-loop μ-loop
 loop-holds c =
     let s = c .before .before in
     let l = s .args .l in (
-      rw (s .pre .6) (on-start (l .rows) (l .step) (s .pre .0 .step-pos) (s .args .pass) (omega arith) (omega arith)),
-      s .pre .4,
+      rw (s .pre .2 .place-is) (on-start (l .rows) (l .step) (s .pre .0 .sound .step-pos) (s .args .pass) (omega arith) (omega arith)),
+      s .pre .2 .stands,
       omega arith,
       refl,
       carried-none l (s .args .back) (now (s .args .from)) (s .args .start .nibble) (now (s .args .to)),
@@ -47,15 +47,15 @@ row-of c =
     let s = entry c in
     let l = s .args .l in
     let i = c .before .before .loop in
-    row-at (l .rows) (l .step) (s .pre .0 .step-pos) (dataPlace l (i .at .nibble)) (s .args .pass) (i .row) (i .inv .0) (s .pre .5) (c .if1 .taken)
+    row-at (l .rows) (l .step) (s .pre .0 .sound .step-pos) (dataPlace l (i .at .nibble)) (s .args .pass) (i .row) (i .inv .0) (s .pre .2 .pass-lt) (c .if1 .taken)
 
 move-parity-requires : tie.Need-move-parity-requires Inv-loop μ-loop
 move-parity-requires c κs =
     let s = entry (c .before) in
     let l = s .args .l in
     let i = c .before .before .before .loop in
-    let h = stream-on l (s .pre .0) (i .at .nibble) (row-of (c .before) .1) in
-    (s .pre .0, s .pre .1, s .pre .2, s .pre .3, i .inv .1, h, s .pre .7, omega (arith, s .pre .8, i .inv .3))
+    let h = stream-on l (s .pre .0 .sound) (i .at .nibble) (row-of (c .before) .1) in
+    (moving-on (s .pre .0) (i .inv .3), s .pre .1, i .inv .1, h)
 
 abbrev turn : tie.After-move-parity Inv-loop μ-loop → tie.Then1 Inv-loop μ-loop
 turn c = c .before .before
@@ -68,8 +68,8 @@ data-of c =
     let s = entry (turn c) in
     let l = s .args .l in
     let m = c .move-parity in
-    let e = parity-passed l (s .pre .0) (turn c .before .before .loop .at .nibble) (m .result .nibble) (m .ensures .0 .0) in
-    (e, stream-on l (s .pre .0) (m .result .nibble) (omega (arith, e, row-of (turn c) .1)))
+    let e = parity-passed l (s .pre .0 .sound) (turn c .before .before .loop .at .nibble) (m .result .nibble) (m .ensures .0 .0) in
+    (e, stream-on l (s .pre .0 .sound) (m .result .nibble) (omega (arith, e, row-of (turn c) .1)))
 
 -- how far the data nibbles reach before the next parity nibble
 reach-le : (c : tie.After-move-parity Inv-loop μ-loop)
@@ -79,8 +79,8 @@ reach-le c =
     let l = s .args .l in
     let m = c .move-parity in
     let h : m .result .left ≤ 65535 =
-    omega (arith, m .ensures .0 .1 .left-is, until-le l (s .pre .0) (m .result .nibble), s .pre .1 .group-lt) in
-    (mul-le-mul {n₁ = m .result .left} {m₁ = l .step} {n₂ = 65535} {m₂ = 65535} h (omega (arith, s .pre .1 .step-lt)), h)
+    omega (arith, m .ensures .0 .1 .left-is, until-le l (s .pre .0 .sound) (m .result .nibble), s .pre .0 .small .group-lt) in
+    (mul-le-mul {n₁ = m .result .left} {m₁ = l .step} {n₂ = 65535} {m₂ = 65535} h (omega (arith, s .pre .0 .small .step-lt)), h)
 
 mul-least : tie.Need-mul-least Inv-loop μ-loop
 mul-least c = omega (arith, reach-le (c .before .before .before .before))
@@ -88,7 +88,7 @@ mul-least c = omega (arith, reach-le (c .before .before .before .before))
 add-least : tie.Need-add-least Inv-loop μ-loop
 add-least c =
     let m = c .before .before .before .before in
-    omega (arith, reach-le m, turn m .if1 .taken, entry (turn m) .pre .1)
+    omega (arith, reach-le m, turn m .if1 .taken, entry (turn m) .pre .0 .small)
 
 least-requires : tie.Need-least-requires Inv-loop μ-loop
 least-requires c κs = search needs
@@ -101,21 +101,20 @@ move-data-requires c κs =
     let l = s .args .l in
     let (place, n) = data-of m in
     let d = m .move-parity in (
-      s .pre .0,
-      s .pre .1,
-      s .pre .5,
-      omega (arith, c .before .least .ensures),
-      omega arith,
-      rw place (t .before .before .loop .inv .0),
-      omega (arith, c .before .least .ensures, ap (λ (x : ℕ). x * l .step) (d .ensures .0 .1 .left-is)),
-      s .pre .7,
-      omega (arith, s .pre .8, t .before .before .loop .inv .3, d .kept .1 .1 .1 .1 .0),
+      moving-on (s .pre .0) (d .kept .1 .1 .1 .1 .0 ∙ t .before .before .loop .inv .3),
+      record {
+        pass-lt = s .pre .2 .pass-lt;
+        end-le = omega (arith, c .before .least .ensures);
+        within = omega arith;
+        on-pass = rw place (t .before .before .loop .inv .0);
+        no-parity = omega (arith, c .before .least .ensures, ap (λ (x : ℕ). x * l .step) (d .ensures .0 .1 .left-is));
+      },
     )
 
 add-t16 : tie.Need-add-t16 Inv-loop μ-loop
 add-t16 c =
     let m = c .before .before .before .before .before .before .before .before .before .before in
-    omega (arith, reach-le m .1, data-of m .1, entry (turn m) .pre .1)
+    omega (arith, reach-le m .1, data-of m .1, entry (turn m) .pre .0 .small)
 
 sub-t17 : tie.Need-sub-t17 Inv-loop μ-loop
 sub-t17 c =
@@ -134,7 +133,7 @@ loop-less c =
       one-mul (entry t .args .l .step),
       mul-le-mul-right {m = 1} {n = m .move-parity .result .left} (entry t .args .l .step) (m .move-parity .ensures .0 .2),
     ) in
-    omega (arith, x .ensures .0 .3, c .before .before .before .before .before .before .least .ensures, t .if1 .taken, entry t .pre .0 .step-pos)
+    omega (arith, x .ensures .0 .3, c .before .before .before .before .before .before .least .ensures, t .if1 .taken, entry t .pre .0 .sound .step-pos)
 
 loop-again : tie.Need-loop-again Inv-loop μ-loop
 loop-again c =
@@ -173,7 +172,7 @@ returns c =
       (
         i .inv .2,
         i .inv .1,
-        pass-end (l .rows) (l .step) (s .pre .0 .step-pos) (dataPlace l (i .at .nibble)) (s .args .pass) (i .row) (i .inv .0) (s .pre .5) (c .if1 .left),
+        pass-end (l .rows) (l .step) (s .pre .0 .sound .step-pos) (dataPlace l (i .at .nibble)) (s .args .pass) (i .row) (i .inv .0) (s .pre .2 .pass-lt) (c .if1 .left),
       ),
       i .inv .4,
     )

@@ -31,8 +31,8 @@ next : (c : tie.In-loop Inv-loop μ-loop) → Pair (entry c .args .l) (c .before
 next c =
     let s = entry c in
     let at = c .before .loop .inv .0 in
-    pair-at (s .args .l) (s .pre .0) (s .pre .2) (at .place) (c .before .loop .row) (s .args .start .pass) (at .on-pass) (at .pass-lt)
-    (omega (arith, c .loop-test .taken, s .pre .4))
+    pair-at (s .args .l) (s .pre .0 .sound) (s .pre .1 .paired) (at .place) (c .before .loop .row) (s .args .start .pass) (at .on-pass) (at .pass-lt)
+    (omega (arith, c .loop-test .taken, s .pre .1 .end-le))
 
 within : (c : tie.In-loop Inv-loop μ-loop)
     → (codedOf (entry c .args .l) ≡ entry c .args .l .rows * 8) × (c .before .loop .nibble + 1 < entry c .args .l .rows * 2)
@@ -41,16 +41,16 @@ within c =
     let s = entry c in
     let i = c .before .loop in
     let below = next c .3 in (
-      omega (arith, parity-is (s .args .l) (s .pre .0) (s .pre .2)),
+      omega (arith, parity-is (s .args .l) (s .pre .0 .sound) (s .pre .1 .paired)),
       omega (arith, next c .2, i .inv .0 .nibble-is),
-      omega (arith, c .loop-test .taken, s .pre .4),
-      omega (arith, s .pre .5 (i .row) (i .inv .2) (c .loop-test .taken)),
+      omega (arith, c .loop-test .taken, s .pre .1 .end-le),
+      omega (arith, s .pre .1 .apart-is (i .row) (i .inv .2) (c .loop-test .taken)),
     )
 
 loop-holds : tie.Need-loop-holds Inv-loop μ-loop
 loop-holds c =
     let s = c .before .before in (
-      s .pre .3,
+      s .pre .1 .runs,
       omega arith,
       omega arith,
       refl,
@@ -61,30 +61,30 @@ cast-rotation : tie.Need-cast-rotation Inv-loop μ-loop
 cast-rotation c = omega arith
 
 mul-move-word : tie.Need-mul-move-word Inv-loop μ-loop
-mul-move-word c = omega (arith, within c .2, entry c .pre .1)
+mul-move-word c = omega (arith, within c .2, entry c .pre .0 .small)
 
 move-word-requires : tie.Need-move-word-requires Inv-loop μ-loop
 move-word-requires c κs =
     let t = c .before in
     let s = entry t in
     let (coded, n, row, first) = within t in
-    let room : codedOf (s .args .l) ≤ length (t .before .loop .to) = omega (arith, s .pre .7, t .before .loop .inv .3) in
-    (refl, omega (arith, s .pre .6), omega arith, omega (arith, s .pre .6), omega arith)
+    let room : codedOf (s .args .l) ≤ length (t .before .loop .to) = omega (arith, s .pre .0 .room, t .before .loop .inv .3) in
+    (refl, record { coded-from = omega (arith, s .pre .0 .whole); coded-to = omega arith; row-from = omega (arith, s .pre .0 .whole); row-to = omega arith })
 
 add-move-word : tie.Need-add-move-word Inv-loop μ-loop
 add-move-word c =
     let t = c .before .before .before .before in
-    omega (arith, within t .1, entry t .pre .1)
+    omega (arith, within t .1, entry t .pre .0 .small)
 
 add-move-word-2 : tie.Need-add-move-word-2 Inv-loop μ-loop
 add-move-word-2 c =
     let t = c .before .before .before .before in
-    omega (arith, within t .3, entry t .pre .1)
+    omega (arith, within t .3, entry t .pre .0 .small)
 
 mul-move-word-2 : tie.Need-mul-move-word-2 Inv-loop μ-loop
 mul-move-word-2 c =
     let t = c .before .before .before .before in
-    omega (arith, within t .3, entry t .pre .1)
+    omega (arith, within t .3, entry t .pre .0 .small)
 
 move-word-requires-2 : tie.Need-move-word-requires-2 Inv-loop μ-loop
 move-word-requires-2 c κs =
@@ -93,23 +93,23 @@ move-word-requires-2 c κs =
     let s = entry t in
     let (coded, n, row, first) = within t in
     let room : codedOf (s .args .l) ≤ length (m .move-word .last .1 .1 .1 .1 .1 .0) =
-    omega (arith, s .pre .7, t .before .loop .inv .3, m .move-word .kept .1 .1 .1 .1 .1 .0) in
-    (same-rotation _ (t .before .loop .inv .0 .place) (t .before .loop .inv .0 .nibble-is), omega (arith, s .pre .6), omega arith, omega (arith, s .pre .6), omega arith)
+    omega (arith, s .pre .0 .room, t .before .loop .inv .3, m .move-word .kept .1 .1 .1 .1 .1 .0) in
+    (same-rotation _ (t .before .loop .inv .0 .place) (t .before .loop .inv .0 .nibble-is), record { coded-from = omega (arith, s .pre .0 .whole); coded-to = omega arith; row-from = omega (arith, s .pre .0 .whole); row-to = omega arith })
 
 add-nibble : tie.Need-add-nibble Inv-loop μ-loop
 add-nibble c =
     let t = c .before .before .before .before .before .before .before .before in
-    omega (arith, within t .1, entry t .pre .1)
+    omega (arith, within t .1, entry t .pre .0 .small)
 
 add-row : tie.Need-add-row Inv-loop μ-loop
 add-row c =
     let t = c .before .before .before .before .before .before .before .before .before in
-    omega (arith, within t .2, entry t .pre .1)
+    omega (arith, within t .2, entry t .pre .0 .small)
 
 loop-less : tie.Need-loop-less Inv-loop μ-loop
 loop-less c =
     let t = c .before .before .before .before .before .before .before .before .before in
-    omega (arith, t .loop-test .taken, entry t .pre .0 .step-pos)
+    omega (arith, t .loop-test .taken, entry t .pre .0 .sound .step-pos)
 
 loop-again : tie.Need-loop-again Inv-loop μ-loop
 loop-again c =
@@ -127,12 +127,12 @@ loop-again c =
     let (first, second, below, moved) = next t in
     let row : i .row ≡ rowOf l n = first ∙ ap (rowOf l) (sym e) in
     let parity : s .args .apart + i .row ≡ rowOf l (n + 1) =
-    s .pre .5 (i .row) (i .inv .2) (t .loop-test .taken) ∙ second ∙ ap (λ (m : ℕ). rowOf l (m + 1)) (sym e) in (
+    s .pre .1 .apart-is (i .row) (i .inv .2) (t .loop-test .taken) ∙ second ∙ ap (λ (m : ℕ). rowOf l (m + 1)) (sym e) in (
       record {
         place = p + 1;
         nibble-is = omega (arith, e);
         pass-lt = i .inv .0 .pass-lt;
-        on-pass = pass-on (l .rows) (l .step) (s .pre .0 .step-pos) p (s .args .start .pass) (i .row) (i .inv .0 .on-pass) (within t .2);
+        on-pass = pass-on (l .rows) (l .step) (s .pre .0 .sound .step-pos) p (s .args .start .pass) (i .row) (i .inv .0 .on-pass) (within t .2);
       },
       omega (arith, i .inv .1),
       omega (arith, i .inv .2),

@@ -41,7 +41,7 @@ returns c =
     let word = c .before .before .before .before .before .gather in
     let x = c .before .before .before .before .rotated-back in
     nibble-back (s .args .n) (s .args .first) (s .args .back) (now (s .args .from)) (now (s .args .to)) _ (word .result) (x .result)
-    (c .before .before .before .before .before .before .if1 .taken) (s .pre .4) (word .ensures)
+    (c .before .before .before .before .before .before .if1 .taken) (s .pre .1 .row-to) (word .ensures)
     (λ b h. x .ensures b h ∙ ap (λ (t : ℕ). wordByte (word .result) ((b + t) % 4)) (s .pre .0)) (c .before .before .scatter .ensures)
 
 same-length-2 : tie.Need-same-length-2
