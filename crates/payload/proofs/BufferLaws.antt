@@ -4,10 +4,10 @@ use mathlib.Core.List.{List, _++_}
 use Prim.Native.Nat.{ℕ, _*_, _≤_, _<_}
 use native.Mathlib.Omega.{arith}
 use lib.ListN.{length, getD, take, drop, length-append}
-use lib.Seq.{take-at, length-take-le, getD-take}
+use lib.Seq.{take-at}
 use Rattle.bits.specs.Bits.{bitOf, bytesOf}
-use Rattle.bits.specs.Lists.{written}
-use Rattle.bits.proofs.ListLaws.{length-written, getD-written, written-ext, written-over}
+use Rattle.bits.specs.Lists.{tabulate, written}
+use Rattle.bits.proofs.ListLaws.{length-tabulate, getD-tabulate, take-written, written-all, written-ext}
 use Rattle.refusal.specs.Report.{Report, done}
 use Rattle.refusal.specs.Outcome.{Outcome}
 use Rattle.card.specs.Modes.{blockBytes, Defined}
@@ -15,15 +15,17 @@ use Rattle.scrambler.specs.Scrambler.{scrambled, scramble}
 use Rattle.bits.proofs.BitLaws.{length-bytes}
 use Rattle.scrambler.proofs.ScramblerLaws.{length-scramble, bits-scramble}
 use Rattle.interleaver.specs.Source.{codedBits}
+use Rattle.interleaver.proofs.InterleaverLaws.{coded-le}
 use Rattle.fec.specs.Coding.{dataBits, codedBit}
 use Rattle.fec.specs.Recovery.{dataBit, recovered}
 use Rattle.fec.proofs.CodingLaws.{coded-ext}
 use Rattle.fec.proofs.RecoveryLaws.{recovered-ext}
 use Rattle.votes.specs.Votes.{decided}
 use Rattle.payload_layout.specs.declared.Layout.{Layout}
-use Rattle.payload_layout.specs.Layouts.{items, Laid}
-use Rattle.payload_layout.specs.Items.{carried, carries, sentOn}
-use Rattle.payload_layout.proofs.ItemLaws.{carried-below}
+use Rattle.payload_layout.specs.Layouts.{items}
+use Rattle.payload_layout.specs.Items.{carries, sentOn}
+use Rattle.payload_layout.proofs.ItemLaws.{sent-ext}
+use Rattle.payload.specs.Modes.{LaidBlock}
 use Rattle.payload.specs.Entries.{sentItem, decidedBit, blockMade, decidedBlock}
 use Rattle.payload.proofs.EntryLaws.{block-done}
 
@@ -42,51 +44,50 @@ module _ (block was now : List ℕ) (e : now ≡ scramble block ++ drop (length 
   pub scrambled-bits : (i : ℕ) → i < 8 * length block → bitOf (take (length block) now) i ≡ scrambled (bitOf block) i
   scrambled-bits i h = ap (λ (l : List ℕ). bitOf l i) scrambled-part ∙ bits-scramble block i h
 
--- ---- memory that holds the coded bits at its start
+-- ---- a buffer of which the first n elements are written
 
--- items ask only for the coded bits
-sent-ext : (L : Layout) → Laid L → (d e : ℕ → ℕ) → ((b : ℕ) → b < L .coded → d b ≡ e b) → (n : ℕ) → n < items L → sentOn L d n ≡ sentOn L e n
-unfolding sentOn
-sent-ext L laid d e same n h = same (carried L n) (carried-below L laid n h)
+module _ (n : ℕ) (f : ℕ → ℕ) (was now : List ℕ) (e : now ≡ written n f was) where
+  part-written : take n now ≡ tabulate n f
+  part-written = ap (take n) e ∙ take-written n f was
 
-module _ (L : Layout) (kind rate taps : ℕ) (D : Defined kind rate) (count : L .coded ≡ codedBits kind rate) (laid : Laid L) where
-  -- the coded bits are fewer than the items
-  pub coded-items : codedBits kind rate ≤ items L
-  coded-items = omega (arith, laid .full)
+  pub part-length : length (take n now) ≡ n
+  part-length = ap length part-written ∙ length-tabulate n f
+
+  pub part-room : n ≤ length now
+  unfolding written
+  part-room = omega (arith, simp length-append at (ap length e), length-tabulate n f)
+
+  pub part-at : (i : ℕ) → i < n → getD (take n now) i 0 ≡ f i
+  part-at i h = ap (λ (l : List ℕ). getD l i 0) part-written ∙ getD-tabulate n f i 0 h
+
+module _ (L : Layout) (kind rate taps : ℕ) (B : LaidBlock L kind rate) where
+  -- the arrays have room for the coded bits of every block
+  pub coded-fits : L .coded ≤ 8320
+  coded-fits = omega (arith, B .count, coded-le kind rate (B .defined))
+
+  -- the coded bits of d at the start of a buffer, by the number that the layout has of them
+  pub coded-written : (d : ℕ → ℕ) (was now : List ℕ) → now ≡ written (codedBits kind rate) (codedBit kind rate taps d) was
+      → now ≡ written (L .coded) (codedBit kind rate taps d) was
+  coded-written d was now e = written-all _ _ _ was now e (sym (B .count))
 
   -- the items of the coded bits of d are those of the block
-  pub items-written : (d : ℕ → ℕ) (block out now : List ℕ) → ((k : ℕ) → k < dataBits kind → d k ≡ scrambled (bitOf block) k)
-      → now ≡ written (codedBits kind rate) (codedBit kind rate taps d) out
-      → written (items L) (sentOn L (λ b. getD now b 0)) now ≡ written (items L) (sentItem L kind rate taps block) out
+  pub items-written : (d : ℕ → ℕ) (block was now out : List ℕ) → ((k : ℕ) → k < dataBits kind → d k ≡ scrambled (bitOf block) k)
+      → now ≡ written (L .coded) (codedBit kind rate taps d) was
+      → written (items L) (sentOn L (λ b. getD (take (L .coded) now) b 0)) out ≡ written (items L) (sentItem L kind rate taps block) out
   unfolding sentItem
-  items-written d block out now same e =
-      let f = sentOn L (codedBit kind rate taps (scrambled (bitOf block))) in
-      written-ext (items L) (sentOn L (λ b. getD now b 0)) f now
-      (sent-ext L laid (λ b. getD now b 0) (codedBit kind rate taps (scrambled (bitOf block))) (λ b h.
-      ap (λ (l : List ℕ). getD l b 0) e ∙ getD-written (codedBits kind rate) (codedBit kind rate taps d) out b 0 (omega arith)
-      ∙ coded-ext kind rate D taps d (scrambled (bitOf block)) same b (omega arith)))
-      ∙ ap (written (items L) f) e ∙ written-over (codedBits kind rate) (items L) f (codedBit kind rate taps d) out coded-items
+  items-written d block was now out same e =
+      written-ext (items L) _ _ out
+      (sent-ext L (B .laid) (λ b. getD (take (L .coded) now) b 0) (codedBit kind rate taps (scrambled (bitOf block))) (λ b h.
+      part-at (L .coded) (codedBit kind rate taps d) was now e b h
+      ∙ coded-ext kind rate (B .defined) taps d (scrambled (bitOf block)) same b (omega (arith, B .count))))
 
--- ---- a buffer that holds the decided bits at its start
-
-module _ (L : Layout) (kind rate taps : ℕ) (D : Defined kind rate) (count : L .coded ≡ codedBits kind rate) (received was now : List ℕ)
-    (room : L .coded ≤ length was) (e : now ≡ written (L .coded) (decided (items L) (carries L) received) was) where
-  pub decided-room : L .coded ≤ length now
-  decided-room = omega (arith, ap length e ∙ length-written (L .coded) (decided (items L) (carries L) received) was room)
-
-  pub decided-length : length (take (L .coded) now) ≡ L .coded
-  decided-length = length-take-le (L .coded) now decided-room
-
-  -- recovery from the buffer is that from the decided bits
-  pub decided-recovered : (out : List ℕ)
+  -- recovery from a buffer of decided bits is that from the bits
+  pub decided-recovered : (received was now out : List ℕ) → now ≡ written (L .coded) (decided (items L) (carries L) received) was
       → recovered kind rate taps (λ i. getD (take (L .coded) now) i 0) out ≡ recovered kind rate taps (decidedBit L received) out
   unfolding decidedBit
-  decided-recovered out =
-      recovered-ext kind rate D (λ i. getD (take (L .coded) now) i 0) (decided (items L) (carries L) received)
-      (λ i h.
-      getD-take (L .coded) now i 0 (omega arith) ∙ ap (λ (l : List ℕ). getD l i 0) e
-      ∙ getD-written (L .coded) (decided (items L) (carries L) received) was i 0 (omega arith))
-      taps out
+  decided-recovered received was now out e =
+      recovered-ext kind rate (B .defined) (λ i. getD (take (L .coded) now) i 0) (decided (items L) (carries L) received)
+      (λ i h. part-at (L .coded) (decided (items L) (carries L) received) was now e i (omega (arith, B .count))) taps out
 
 -- ---- a buffer that holds the recovered bytes at its start
 

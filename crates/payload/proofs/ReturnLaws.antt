@@ -29,8 +29,8 @@ use Rattle.fec.proofs.RecoveryLaws.{clean-data, clean-rows, refused-parity}
 use Rattle.votes.specs.Votes.{copies, wrongCopies, lostCopies}
 use Rattle.votes.specs.Damage.{Damage}
 use Rattle.payload_layout.specs.Layouts.{items, Laid}
-use Rattle.payload_layout.specs.Items.{carries, carried, sentOn}
-use Rattle.payload_layout.proofs.ItemLaws.{clean as decided-clean, survives as decided-survives}
+use Rattle.payload_layout.specs.Items.{carries, sentOn}
+use Rattle.payload_layout.proofs.ItemLaws.{sent-binary, decided-clean, decided-damaged}
 use Rattle.payload.specs.Modes.{Served}
 use Rattle.payload.specs.Entries.{payloadCard, layoutOfCard, sentItem, send, decidedBit, blockMade, decidedBlock, read}
 use Rattle.payload.specs.Words.{GoodCard, Block, made}
@@ -108,6 +108,9 @@ module _ (card : List ℕ) (good : GoodCard card) where
     bits-binary : (b : ℕ) → blockBits card block b < 2
     bits-binary = coded-binary (cardOf card .kind) (cardOf card .rate) (served .defined) (cardOf card .taps) (scrambled (bitOf block)) scrambled-binary
 
+    items-binary : (n : ℕ) → sentOn (layoutOfCard card) (blockBits card block) n < 2
+    items-binary = sent-binary (layoutOfCard card) (blockBits card block) bits-binary
+
     -- data bits that are the scrambled block's make the block
     descrambled : (d : ℕ → ℕ) → ((k : ℕ) → k < dataBits (cardOf card .kind) → d k ≡ scrambled (bitOf block) k)
         → bytesOf (blockBytes (cardOf card .kind)) (scrambled d) ≡ block
@@ -133,7 +136,7 @@ module _ (card : List ℕ) (good : GoodCard card) where
     -- Clean return: what was sent, read with the same card, answers 0 and gives the block.
     pub clean : (out back : List ℕ) → items (layoutOfCard card) ≤ length out → blockBytes (cardOf card .kind) ≤ length back
         → read card (made card block out) back ≡ record { report = done (blockBytes (cardOf card .kind)); out = block ++ drop (blockBytes (cardOf card .kind)) back }
-    unfolding decidedBit sentOn
+    unfolding decidedBit
     clean out back room space = rw (made-is out room) (block-back sent back damage space as-sent)
       where
         sent : List ℕ
@@ -142,11 +145,8 @@ module _ (card : List ℕ) (good : GoodCard card) where
         at-item : (n : ℕ) → n < items (layoutOfCard card) → getD sent n 0 ≡ sentOn (layoutOfCard card) (blockBits card block) n
         at-item n h = getD-tabulate (items (layoutOfCard card)) (sentOn (layoutOfCard card) (blockBits card block)) n 0 h
 
-        sent-bit : (n : ℕ) → sentOn (layoutOfCard card) (blockBits card block) n < 2
-        sent-bit n = bits-binary (carried (layoutOfCard card) n)
-
         damage : Damage (items (layoutOfCard card)) sent
-        damage = record { long = length-tabulate (items (layoutOfCard card)) _; legal = λ n h. omega (arith, at-item n h, sent-bit n) }
+        damage = record { long = length-tabulate (items (layoutOfCard card)) _; legal = λ n h. omega (arith, at-item n h, items-binary n) }
 
         as-sent : (b : ℕ) → b < codedBits (cardOf card .kind) (cardOf card .rate) → decidedBit (layoutOfCard card) sent b ≡ blockBits card block b
         as-sent b h =
@@ -163,13 +163,12 @@ module _ (card : List ℕ) (good : GoodCard card) where
     unfolding decidedBit
     survives out received back room damage space few =
         block-back received back damage space (λ b h.
-        decided-survives (layoutOfCard card) (blockBits card block) received b (bits-binary b) (damage .legal) (rw (made-is out room) at (few b h)))
+        decided-damaged (layoutOfCard card) (blockBits card block) received b (bits-binary b) (damage .legal) (rw (made-is out room) at (few b h)))
 
     -- what was made is so many bits
     pub made-length : (out : List ℕ) → items (layoutOfCard card) ≤ length out → length (made card block out) ≡ items (layoutOfCard card)
     made-length out room = ap length (made-is out room) ∙ length-tabulate (items (layoutOfCard card)) (sentOn (layoutOfCard card) (blockBits card block))
 
     pub made-binary : (out : List ℕ) → items (layoutOfCard card) ≤ length out → (n : ℕ) → n < items (layoutOfCard card) → getD (made card block out) n 0 < 2
-    unfolding sentOn
     made-binary out room n h =
-        rw (made-is out room, getD-tabulate (items (layoutOfCard card)) (sentOn (layoutOfCard card) (blockBits card block)) n 0 h) (bits-binary (carried (layoutOfCard card) n))
+        rw (made-is out room, getD-tabulate (items (layoutOfCard card)) (sentOn (layoutOfCard card) (blockBits card block)) n 0 h) (items-binary n)

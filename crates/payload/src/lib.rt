@@ -11,10 +11,9 @@ ghost use lib.ListN.{length};
 ghost use Rattle.bits.specs.Lists.{written};
 ghost use Rattle.refusal.specs.Report.{answer};
 ghost use Rattle.card.specs.Entries.{cardRead};
-ghost use Rattle.card.specs.Modes.{blockBytes, Defined};
-ghost use Rattle.interleaver.specs.Source.{codedBits};
-ghost use Rattle.payload_layout.specs.Layouts.{items as itemsOf, Laid};
-ghost use Rattle.payload.specs.Modes.{Served};
+ghost use Rattle.card.specs.Modes.{blockBytes};
+ghost use Rattle.payload_layout.specs.Layouts.{items as itemsOf};
+ghost use Rattle.payload.specs.Modes.{Served, LaidBlock};
 ghost use Rattle.payload.specs.Entries.{payloadCard, blockLayout, sentItem, sendBy, send as sendOutcome, decidedBit, decidedBlock, readBy, read as readOutcome};
 
 // The card in some bytes, or refusal 1, 2 or 3. Frame control is not served here.
@@ -45,14 +44,16 @@ fn block_layout(band: usize, kind: usize, rate: usize, modulation: usize) -> Lay
 
 // The items of a block at the start of `out`: scrambled, coded and laid out.
 fn send_items(l: Layout, kind: usize, rate: usize, taps: u16, block: &[u8], out: &mut [u8])
-    requires { ⌜ (Defined kind rate) × (Laid l) × (l .coded ≡ codedBits kind rate) × (length (now block) ≡ blockBytes kind) × (itemsOf l ≤ length (now out)) ⌝ }
+    requires { ⌜ (LaidBlock l kind rate) × (length (now block) ≡ blockBytes kind) × (itemsOf l ≤ length (now out)) ⌝ }
     ensures { λ _. ⌜ now (out .exit) ≡ written (itemsOf l) (sentItem l kind rate taps (now (block .entry))) (now (out .entry)) ⌝ }
 {
     let size = block.len();
+    let count = l.coded;
     let mut scrambled = [0u8; 520];
+    let mut coded = [0u8; 8320];
     scrambler::scramble(block, &mut scrambled);
-    fec::encode(kind, rate, taps, &scrambled[..size], out);
-    payload_layout::fill_pad(l, out);
+    fec::encode(kind, rate, taps, &scrambled[..size], &mut coded);
+    payload_layout::lay_out(l, &coded[..count], out);
 }
 
 // Sending behind the card's checks: refusal 9, 4 or 5, or the items.
@@ -115,7 +116,7 @@ fn read_items(
     items: &[u8],
     out: &mut [u8],
 ) -> Answer
-    requires { ⌜ (Defined kind rate) × (Laid l) × (l .coded ≡ codedBits kind rate) × (length (now items) ≡ itemsOf l) × (blockBytes kind ≤ length (now out)) ⌝ }
+    requires { ⌜ (LaidBlock l kind rate) × (length (now items) ≡ itemsOf l) × (blockBytes kind ≤ length (now out)) ⌝ }
     ensures answer { λ r. ⌜ answer r ≡ decidedBlock kind rate taps (decidedBit l (now (items .entry))) (now (out .entry)) .report ⌝ }
     ensures bytes { λ _. ⌜ now (out .exit) ≡ decidedBlock kind rate taps (decidedBit l (now (items .entry))) (now (out .entry)) .out ⌝ }
 {

@@ -8,7 +8,6 @@ use Rattle.bits.specs.Ranges.{allBelow}
 use Rattle.bits.proofs.RangeLaws.{at-each, under₂}
 use Rattle.card.specs.Modes.{carrierBits}
 use Rattle.bands.specs.Bands.{bandCount, carriers}
-use Rattle.bits.proofs.NumberLaws.{row-within}
 use Rattle.payload_layout.specs.Layouts.{symbolBits, symbolCount, padBits, layoutFor, layoutOf, items, Laid}
 
 -- ---- any number of carriers, and of bits a carrier
@@ -22,10 +21,6 @@ module _ (C b coded : ℕ) (some : 0 < symbolBits C b) where
   pub symbols-tight : symbolCount C b coded * symbolBits C b < coded + symbolBits C b
   unfolding symbolCount
   symbols-tight = omega (arith, div-add-mod' (coded + symbolBits C b - 1) (symbolBits C b))
-
-  -- fewer symbols do not hold the coded bits
-  pub symbols-least : (s : ℕ) → s < symbolCount C b coded → s * symbolBits C b < coded
-  symbols-least s h = omega (arith, row-within s (symbolBits C b) (symbolCount C b coded) h, symbols-tight)
 
   pub pad-less : padBits C b coded < symbolBits C b
   unfolding padBits

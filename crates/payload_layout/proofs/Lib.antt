@@ -2,3 +2,5 @@
 pub mod LayoutLaws
 pub mod ItemLaws
 pub mod ModeLaws
+mod RunLaws
+mod DecisionLaws

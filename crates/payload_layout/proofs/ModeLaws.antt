@@ -1,18 +1,14 @@
 -- The layouts of the defined modes of bands 0 and 1, by computed tests over the modes: the pad is within the coded data, so that refusal 9
 -- is never given, and the most items. Assumes nothing.
-use mathlib.Core.Path.{_≡_}
-use mathlib.Core.Bool.{Bool, false}
+use mathlib.Core.Bool.{Bool}
 use mathlib.Core.List.{[], _∷_}
 use Prim.Native.Nat.{ℕ, _≤_, _<_}
-use native.Mathlib.Omega.{arith}
-use lib.Dec.{T, leb, leb→le, ltb}
+use lib.Dec.{T, leb, leb→le}
 use lib.ListN.{getD}
-use borrow.Author.Tests.{le-ltb}
 use Rattle.bits.specs.Ranges.{allBelow}
 use Rattle.bits.proofs.RangeLaws.{at-each}
 use Rattle.bands.specs.Bands.{bandCount, carriers}
-use Rattle.payload_layout.specs.Layouts.{symbolBits, symbolCount, padBits, layoutFor, layoutOf, items, mostCoded, mostItems, Laid}
-use Rattle.payload_layout.proofs.LayoutLaws.{layout-laid}
+use Rattle.payload_layout.specs.Layouts.{symbolBits, symbolCount, padBits, layoutFor, layoutOf, items, mostCoded, mostItems}
 
 -- the coded bits of a payload: kinds 1 to 4 at rate 1/2, and kind 4 at 16/18; row kind - 1 + rate is that of kind and rate
 abbrev pub codedCount : ℕ → ℕ
@@ -54,11 +50,3 @@ module _ (row band modulation : ℕ) (row-lt : row < 5) (band-lt : band < bandCo
   pub mode-items : items (layoutOf band modulation (codedCount row)) ≤ mostItems
   unfolding few
   mode-items = leb→le (items (layoutOf band modulation (codedCount row))) mostItems (at-mode few all-few)
-
-  -- so refusal 9's condition is false
-  pub mode-passes : ltb (codedCount row) (layoutOf band modulation (codedCount row) .pad) ≡ false
-  mode-passes = le-ltb (codedCount row) (layoutOf band modulation (codedCount row) .pad) mode-pad
-
-  pub mode-laid : Laid (layoutOf band modulation (codedCount row))
-  mode-laid =
-      layout-laid band modulation band-lt modulation-lt (codedCount row) (omega (arith, mode-coded row row-lt)) mode-pad

@@ -7,8 +7,9 @@ ghost use lib.ListN.{length, getD};
 ghost use Rattle.bits.specs.Lists.{written};
 ghost use Rattle.bands.specs.Bands.{bandCount};
 ghost use Rattle.votes.specs.Votes.{decided};
-ghost use Rattle.payload_layout.specs.Layouts.{layoutOf, items as itemsOf, mostCoded, Laid};
-ghost use Rattle.payload_layout.specs.Items.{carries, sentOn, vote, ofOne, ofTwo};
+ghost use Rattle.payload_layout.specs.Layouts.{layoutOf, items as itemsOf, Laid};
+ghost use Rattle.payload_layout.specs.Items.{carries, sentOn};
+ghost use Rattle.payload_layout.specs.Loops.Copies.{vote, ofOne, ofTwo};
 
 // The numbers of a payload's layout.
 pub struct Layout {
@@ -47,18 +48,15 @@ pub fn item_count(l: Layout) -> usize
     l.coded + l.pad
 }
 
-// The items of the coded bits, which stand at the start of `out`: they stay, and those from 0 on that fill the last symbol follow.
-pub fn fill_pad(l: Layout, out: &mut [u8])
-    requires { ⌜ (Laid l) × (itemsOf l ≤ length (now out)) ⌝ }
-    ensures { λ _. ⌜ now (out .exit) ≡ written (itemsOf l) (sentOn l (λ b. getD (now (out .entry)) b 0)) (now (out .entry)) ⌝ }
+// The items of the coded bits, at the start of `out`: the coded bits in order, and then those from 0 on that fill the last symbol.
+pub fn lay_out(l: Layout, coded: &[u8], out: &mut [u8])
+    requires { ⌜ (Laid l) × (length (now coded) ≡ l .coded) × (itemsOf l ≤ length (now out)) ⌝ }
+    ensures { λ _. ⌜ now (out .exit) ≡ written (itemsOf l) (sentOn l (λ b. getD (now (coded .entry)) b 0)) (now (out .entry)) ⌝ }
 {
     let first = l.coded;
     let pad = l.pad;
-    let mut i: usize = 0;
-    while i < pad {
-        out[first + i] = out[i];
-        i += 1;
-    }
+    bits::put(coded, out);
+    bits::put(&coded[..pad], &mut out[first..]);
 }
 
 // ---- decisions
@@ -121,7 +119,7 @@ fn decide_twos(items: &[u8], pad: &[u8], out: &mut [u8])
 // Each coded bit by strict majority of its copies, at the start of `out`: 0, 1, or 2 where there is none. The items before the pad carry
 // the bits in order, and so do those of the pad, so a bit has one copy or two.
 pub fn decide(l: Layout, items: &[u8], out: &mut [u8])
-    requires { ⌜ (Laid l) × (l .coded ≤ mostCoded) × (length (now items) ≡ itemsOf l) × (l .coded ≤ length (now out)) ⌝ }
+    requires { ⌜ (Laid l) × (length (now items) ≡ itemsOf l) × (l .coded ≤ length (now out)) ⌝ }
     ensures { λ _. ⌜ now (out .exit) ≡ written (l .coded) (decided (itemsOf l) (carries l) (now (items .entry))) (now (out .entry)) ⌝ }
 {
     let first = l.coded;

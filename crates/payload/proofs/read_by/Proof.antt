@@ -82,9 +82,11 @@ read-items-requires : tie.Need-read-items-requires
 read-items-requires c κs =
     let o = c .before .before .before .before .before .before .before in
     let z = o .before .before .before .before .before in (
-      z .pre .defined,
-      laid o,
-      ap (λ (L : Layout). L .coded) (o .before .before .block-layout .ensures) ∙ layout-bits (z .args .band) (z .args .kind) (z .args .rate) (z .args .modulation),
+      record {
+        defined = z .pre .defined;
+        laid = laid o;
+        count = ap (λ (L : Layout). L .coded) (o .before .before .block-layout .ensures) ∙ layout-bits (z .args .band) (z .args .kind) (z .args .rate) (z .args .modulation);
+      },
       long (c .before .before .before .before .before),
       omega (arith, c .before .before .before .before .block-bytes .ensures, c .before .before .before .if3 .left),
     )

@@ -73,9 +73,11 @@ send-items-requires : tie.Need-send-items-requires
 send-items-requires c κs =
     let o = c .before .before .before .before .before in
     let z = o .before .before .before .before .before in (
-      z .pre .defined,
-      laid o,
-      ap (λ (L : Layout). L .coded) (o .before .before .block-layout .ensures) ∙ layout-bits (z .args .band) (z .args .kind) (z .args .rate) (z .args .modulation),
+      record {
+        defined = z .pre .defined;
+        laid = laid o;
+        count = ap (λ (L : Layout). L .coded) (o .before .before .block-layout .ensures) ∙ layout-bits (z .args .band) (z .args .kind) (z .args .rate) (z .args .modulation);
+      },
       long (c .before .before),
       omega (arith, c .before .before .before .item-count .ensures, c .before .if3 .left),
     )

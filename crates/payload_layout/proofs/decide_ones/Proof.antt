@@ -5,7 +5,7 @@ use native.Mathlib.Omega.{arith}
 use lib.ListN.{length, getD, length-set}
 use Rattle.bits.specs.Lists.{written}
 use Rattle.bits.proofs.ListLaws.{written-none, written-next, written-all}
-use Rattle.payload_layout.specs.Items.{ofOne}
+use Rattle.payload_layout.specs.Loops.Copies.{ofOne}
 use borrow.Author.Needs.{needs}
 use Rattle.payload_layout.proofs.decide_ones.Statement.{statement}
 use Rattle.payload_layout.proofs.decide_ones.Tie as tie

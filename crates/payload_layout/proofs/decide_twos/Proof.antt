@@ -5,7 +5,7 @@ use native.Mathlib.Omega.{arith}
 use lib.ListN.{length, getD, length-set}
 use Rattle.bits.specs.Lists.{written}
 use Rattle.bits.proofs.ListLaws.{written-none, written-next, written-all}
-use Rattle.payload_layout.specs.Items.{ofTwo}
+use Rattle.payload_layout.specs.Loops.Copies.{ofTwo}
 use borrow.Author.Needs.{needs}
 use Rattle.payload_layout.proofs.decide_twos.Statement.{statement}
 use Rattle.payload_layout.proofs.decide_twos.Tie as tie

@@ -1,5 +1,5 @@
 -- `payload_layout::of_one` meets its contract. Assumes nothing.
-use Rattle.payload_layout.proofs.ItemLaws.{one-heard, one-lost}
+use Rattle.payload_layout.proofs.DecisionLaws.{one-heard, one-lost}
 use Rattle.payload_layout.proofs.of_one.Statement.{statement}
 use Rattle.payload_layout.proofs.of_one.Tie as tie
 

@@ -6,7 +6,7 @@ use lib.Dec.{eqb}
 use borrow.Author.Tests.{lt-ltb, le-ltb}
 use Rattle.bits.proofs.SumLaws.{one-le}
 use Rattle.votes.specs.Votes.{majority}
-use Rattle.payload_layout.specs.Items.{ofTwo}
+use Rattle.payload_layout.specs.Loops.Copies.{ofTwo}
 use borrow.Author.Needs.{needs}
 use Rattle.payload_layout.proofs.of_two.Statement.{statement}
 use Rattle.payload_layout.proofs.of_two.Tie as tie

@@ -1,0 +1,53 @@
+-- `payload_layout::lay_out` meets its contract: the two runs are all items. Assumes nothing.
+use mathlib.Core.Path.{sym}
+use native.Mathlib.Omega.{arith}
+use lib.ListN.{length-append, length-drop}
+use Rattle.payload_layout.proofs.RunLaws.{pad-length, laid-out}
+use borrow.Author.Needs.{needs}
+use Rattle.payload_layout.proofs.lay_out.Statement.{statement}
+use Rattle.payload_layout.proofs.lay_out.Tie as tie
+
+put-requires : tie.Need-put-requires
+put-requires c κs = search needs
+
+slice-aggregate-put : tie.Need-slice-aggregate-put
+slice-aggregate-put c =
+    let z = c .before .before .before .before .before .before .before in
+    sym (pad-length (z .args .l) (z .pre .0) (z .args .coded .now) (z .pre .1))
+
+sub-put : tie.Need-sub-put
+sub-put c = search needs
+
+part-put-start : tie.Need-part-put-start
+part-put-start c = search needs
+
+part-put-end : tie.Need-part-put-end
+part-put-end c = search needs
+
+put-requires-2 : tie.Need-put-requires-2
+put-requires-2 c κs =
+    let z = c .before .before .before .before .before .before .before .before in
+    omega (arith, pad-length (z .args .l) (z .pre .0) (z .args .coded .now) (z .pre .1), z .pre .0 .full, z .pre .2)
+
+same-length : tie.Need-same-length
+same-length c = search needs
+
+returns : tie.Need-returns
+returns c =
+    let second = c .before .before in
+    let first = second .before .before .before .before .before in
+    let z = first .before .before .before .before in
+    laid-out (z .args .l) (z .pre .0) (z .args .coded .now) (z .pre .1) _ _ _ (first .put .ensures) (second .put2 .ensures)
+
+pub lay-out-spec : {M : Type 1} → statement M
+lay-out-spec =
+    tie.close
+    (tie.spec
+    put-requires
+    slice-aggregate-put
+    sub-put
+    part-put-start
+    part-put-end
+    put-requires-2
+    same-length
+    returns)
