@@ -9,7 +9,7 @@ ghost use Rattle.bands.specs.Bands.{bandCount};
 ghost use Rattle.votes.specs.Votes.{decided};
 ghost use Rattle.payload_layout.specs.Layouts.{layoutOf, items as itemsOf, Laid};
 ghost use Rattle.payload_layout.specs.Items.{carries, sentOn};
-ghost use Rattle.payload_layout.specs.Loops.Copies.{vote, ofOne, ofTwo};
+ghost use Rattle.payload_layout.specs.Loops.Copies.{ofOne, ofTwo};
 
 // The numbers of a payload's layout.
 pub struct Layout {
@@ -61,13 +61,6 @@ pub fn lay_out(l: Layout, coded: &[u8], out: &mut [u8])
 
 // ---- decisions
 
-// The vote of an item for v: 1 where it holds v, else 0.
-fn same(item: u8, v: u8) -> u8
-    ensures { λ r. ⌜ r ≡ vote item v ⌝ }
-{
-    if item == v { 1 } else { 0 }
-}
-
 // What a bit's only copy decides.
 fn of_one(item: u8) -> u8
     ensures { λ r. ⌜ r ≡ ofOne item ⌝ }
@@ -79,8 +72,8 @@ fn of_one(item: u8) -> u8
 fn of_two(a: u8, b: u8) -> u8
     ensures { λ r. ⌜ r ≡ ofTwo a b ⌝ }
 {
-    let zeros = same(a, 0) + same(b, 0);
-    let ones = same(a, 1) + same(b, 1);
+    let zeros = votes::same(a, 0) + votes::same(b, 0);
+    let ones = votes::same(a, 1) + votes::same(b, 1);
     if ones < zeros {
         return 0;
     }

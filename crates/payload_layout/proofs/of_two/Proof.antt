@@ -2,9 +2,7 @@
 use mathlib.Core.Path.{_≡_, refl, ap₂, _∙_}
 use Prim.Native.Nat.{ℕ, _+_}
 use native.Mathlib.Omega.{arith}
-use lib.Dec.{eqb}
 use borrow.Author.Tests.{lt-ltb, le-ltb}
-use Rattle.bits.proofs.SumLaws.{one-le}
 use Rattle.votes.specs.Votes.{majority}
 use Rattle.payload_layout.specs.Loops.Copies.{ofTwo}
 use borrow.Author.Needs.{needs}
@@ -20,8 +18,8 @@ counted : (c : tie.After-same4)
 unfolding ofTwo
 counted c =
     let second = c .before .before in
-    ap₂ majority (ap₂ _+_ (second .before .same .ensures) (second .same2 .ensures))
-    (ap₂ _+_ (c .before .same3 .ensures) (c .same4 .ensures))
+    ap₂ majority (ap₂ _+_ (second .before .same .ensures .0) (second .same2 .ensures .0))
+    (ap₂ _+_ (c .before .same3 .ensures .0) (c .same4 .ensures .0))
 
 same-requires : tie.Need-same-requires
 same-requires c κs = search needs
@@ -30,9 +28,7 @@ same-requires-2 : tie.Need-same-requires-2
 same-requires-2 c κs = search needs
 
 add-zeros : tie.Need-add-zeros
-add-zeros c =
-    let z = c .before .before .args in
-    omega (arith, c .before .same .ensures, c .same2 .ensures, one-le (eqb (z .a) 0), one-le (eqb (z .b) 0))
+add-zeros c = omega (arith, c .before .same .ensures .1, c .same2 .ensures .1)
 
 same-requires-3 : tie.Need-same-requires-3
 same-requires-3 c κs = search needs
@@ -41,9 +37,7 @@ same-requires-4 : tie.Need-same-requires-4
 same-requires-4 c κs = search needs
 
 add-ones : tie.Need-add-ones
-add-ones c =
-    let z = c .before .before .before .before .args in
-    omega (arith, c .before .same3 .ensures, c .same4 .ensures, one-le (eqb (z .a) 1), one-le (eqb (z .b) 1))
+add-ones c = omega (arith, c .before .same3 .ensures .1, c .same4 .ensures .1)
 
 returns : tie.Need-returns
 unfolding majority
