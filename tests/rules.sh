@@ -4,13 +4,13 @@ set -u
 cd "$(dirname "$0")/.." || exit 1
 bad=0
 
-# numbers FILE NAME: what the list of a definition holds, between spaces.
+# numbers CRATE NAME: what the list of a definition holds, between spaces.
 numbers() {
-  awk -v name="$2" '
+  find "crates/$1/specs" -name '*.antt' -exec cat {} + | awk -v name="$2" '
     $1 == name && $2 == "=" { on = 1; sub(/^[^=]*=/, "") }
     on { text = text " " $0 }
-    on && /\[\]/ { exit }
-    END { gsub(/0b/, "", text); gsub(/[^0-9]+/, " ", text); gsub(/^ | $/, "", text); print text }' "crates/$1"
+    /\[\]/ { on = 0 }
+    END { gsub(/0b/, "", text); gsub(/[^0-9]+/, " ", text); gsub(/^ | $/, "", text); print text }'
 }
 
 # row PATTERN COLUMN: a column of the row of docs/RULES.md that starts so.
@@ -24,15 +24,15 @@ same() {
   fi
 }
 
-matrices=$(sed -nE 's/^matrix kind = getD \((.*) ∷ \[\]\) kind \[\]$/\1/p' crates/constituent/specs/Encoder.antt)
+matrices=$(sed -nE 's/^matrix kind = getD \((.*) ∷ \[\]\) kind \[\]$/\1/p' crates/constituent/specs/*.antt)
 read -ra matrix <<< "${matrices//∷/}"
-read -ra offset <<< "$(numbers interleaver/specs/Layouts.antt offsets)"
-read -ra step <<< "$(numbers interleaver/specs/Layouts.antt steps)"
+read -ra offset <<< "$(numbers interleaver offsets)"
+read -ra step <<< "$(numbers interleaver steps)"
 kind=0
 for bytes in 16 72 136 264 520; do
-  starts=$(numbers pair_interleaver/specs/Interleave.antt "starts$bytes")
+  starts=$(numbers pair_interleaver "starts$bytes")
   same "L of $bytes" "$(row "| $bytes | $((4 * bytes)) |" 3)" $((4 * bytes))
-  same "M of $bytes" "$(row "| $bytes | $((4 * bytes)) |" 4)" "$(numbers constituent/specs/Encoder.antt "${matrix[kind]}")"
+  same "M of $bytes" "$(row "| $bytes | $((4 * bytes)) |" 4)" "$(numbers constituent "${matrix[kind]}")"
   same "N of $bytes" "$(row "| $bytes | $((4 * bytes)) |" 5)" "$(wc -w <<< "$starts")"
   same "S of $bytes" "$(row "| $bytes | $((4 * bytes)) |" 6)" "$starts"
   same "offset of $bytes" "$(row "| $bytes | 1/2 |" 4)" "${offset[kind]}"
@@ -42,5 +42,5 @@ done
 same 'offset at 16/18' "$(row '| 520 | 16/18 |' 4)" "${offset[5]}"
 same 'step at 16/18' "$(row '| 520 | 16/18 |' 5)" "${step[5]}"
 symbols=$(tr '\n' ' ' < docs/RULES.md | sed -nE 's/.*The offsets are ([0-9, ]+)\..*/\1/p')
-same "the symbols' offsets" "${symbols//,/}" "$(numbers bands/specs/Bands.antt symbolOffsets)"
+same "the symbols' offsets" "${symbols//,/}" "$(numbers bands symbolOffsets)"
 exit "$bad"
