@@ -11,9 +11,10 @@ use Rattle.bits.proofs.RangeLaws.{under, agree}
 use Rattle.refusal.proofs.OutcomeLaws.{kept}
 use Rattle.constellation.specs.Carriers.{throughPoints}
 use Rattle.constellation.proofs.RoundTrip.{list-back}
-use Rattle.bands.specs.Bands.{bandCount, carriers}
-use Rattle.diversity.specs.Lanes.{carrierCount, itemCount, fewestCopies, mostCopies}
-use Rattle.frame_control.specs.Entries.{bandOf, wordRows, readRows, tapsOf, sentItem, send, read}
+use Rattle.bands.specs.Bands.{bandCount, carriers, offsets}
+use Rattle.diversity.specs.Lanes.{carrierCount, itemCount}
+use Rattle.diversity.specs.Copies.{bandFewest, bandMost}
+use Rattle.frame_control.specs.Entries.{carriersOf, offsetsOf, itemCountOf, tapsOf, wordRows, readRows, sentItem, send, read}
 use Rattle.frame_control.specs.Words.{made}
 use Rattle.frame_control.proofs.FrameLaws.{send-good, made-is, clean, comes-back, refused-at-limit, made-length, made-binary}
 use Rattle.card.specs.Card.{cardOf}
@@ -23,7 +24,7 @@ use Rattle.card.specs.Gate.{gateRows}
 use Rattle.card.specs.Text.{textRows, textCard}
 use Rattle.card.proofs.RoundTrip.{write-after-read, read-after-write}
 use Rattle.constellation.specs.Entries.{mapRows, mapOutcome, sliceRows, sliceOutcome}
-use Rattle.diversity.proofs.BandLaws.{copies-range}
+use Rattle.diversity.proofs.BandLaws.{band-range, fewest-of}
 use Rattle.payload_layout.specs.Items.{sentOn}
 use Rattle.payload_layout.proofs.ItemLaws.{sent-carries}
 use Rattle.payload_layout.specs.Layouts.{symbolBits, layoutFor, layoutOf, items}
@@ -31,7 +32,7 @@ use Rattle.payload.specs.Entries.{payloadRows, layoutOfCard, sendRows, send as 
 use Rattle.payload.specs.Words.{made as payloadMade}
 use Rattle.payload.proofs.ModeLaws.{mode-served, layout-items}
 use Rattle.payload.proofs.ReturnLaws.{blockBits, send-good as payload-sent, made-is as payload-made-is, clean as payload-clean, survives as payload-back, made-length as payload-length, made-binary as payload-binary}
-use Rattle.demands.specs.Demands.{Keeps, Outgoing, PayloadOutgoing, CardWritten, CardReadAgain, CleanReturn, PayloadCleanReturn, PayloadSurvives, Lanes, Survives, BestPossible, Lengths}
+use Rattle.demands.specs.Demands.{Keeps, Outgoing, PayloadOutgoing, CardWritten, CardReadAgain, CleanReturn, PayloadCleanReturn, PayloadSurvives, Lanes, Fewest, Survives, BestPossible, Lengths}
 
 -- ---- Demand 1
 
@@ -44,8 +45,8 @@ keeps =
       card-text = λ bytes out. kept {A = ℕ} (textRows bytes out) out _ _;
       map = λ modulation bits point. kept {A = ℕ} (mapRows modulation bits point) point _ _;
       slice = λ modulation received out. kept {A = ℕ} (sliceRows modulation out) out _ _;
-      frame-send = λ card word out. kept {A = ℕ} (gateRows 0 0 card ++ wordRows (bandOf card) word out) out _ _;
-      frame-read = λ card items out. kept {A = ℕ} (gateRows 0 0 card ++ readRows (bandOf card) (tapsOf card) items out) out _ _;
+      frame-send = λ card word out. kept {A = ℕ} (gateRows 0 0 card ++ wordRows (carriersOf card) (offsetsOf card) word out) out _ _;
+      frame-read = λ card items out. kept {A = ℕ} (gateRows 0 0 card ++ readRows (carriersOf card) (offsetsOf card) (tapsOf card) items out) out _ _;
       payload-send = λ card block out. kept {A = ℕ} (payloadRows card ++ sendRows (layoutOfCard card) (cardOf card .kind) block out) out _ _;
       payload-read = λ card items out. kept {A = ℕ} (payloadRows card ++ payloadReadRows (layoutOfCard card) (cardOf card .kind) (cardOf card .rate) (cardOf card .taps) items out) out _ _;
     }
@@ -56,7 +57,7 @@ pub outgoing : Outgoing
 unfolding sentItem
 outgoing card word good is out room = (
   ap (λ o. o .report) (send-good card word good is out room),
-  λ n h. ap (λ (l : List ℕ). getD l n 0) (made-is card word good is out room) ∙ getD-tabulate (itemCount (bandOf card)) (sentItem (bandOf card) (tapsOf card) word) n 0 h,
+  λ n h. ap (λ (l : List ℕ). getD l n 0) (made-is card word good is out room) ∙ getD-tabulate (itemCountOf card) (sentItem (carriersOf card) (offsetsOf card) (tapsOf card) word) n 0 h,
 )
 
 pub payload-outgoing : PayloadOutgoing
@@ -74,28 +75,31 @@ card-written = write-after-read
 pub card-read-again : CardReadAgain
 card-read-again = read-after-write
 
-two-a-carrier : (band : ℕ) → itemCount band ≡ 2 * carrierCount band
+two-a-carrier : (C : ℕ) (os : List ℕ) → itemCount C os ≡ 2 * carrierCount C os
 unfolding itemCount
-two-a-carrier band = refl
+two-a-carrier C os = refl
 
 pub clean-return : CleanReturn
 clean-return card word good is out back room space = (clean card word good is out back room space, through)
   where
-    through : tabulate (itemCount (bandOf card)) (throughPoints 1 (λ n. getD (made card word out) n 0)) ≡ made card word out
+    through : tabulate (itemCountOf card) (throughPoints 1 (λ n. getD (made card word out) n 0)) ≡ made card word out
     through =
         let long = made-length card word good is out room in
-        let two : length (made card word out) ≡ 2 * carrierCount (bandOf card) = long ∙ two-a-carrier (bandOf card) in
+        let two : length (made card word out) ≡ 2 * carrierCount (carriersOf card) (offsetsOf card) = long ∙ two-a-carrier (carriersOf card) (offsetsOf card) in
         ap (λ (n : ℕ). tabulate n (throughPoints 1 (λ n. getD (made card word out) n 0))) (sym long)
-        ∙ list-back 1 (made card word out) (carrierCount (bandOf card)) (omega arith) two (λ k h. made-binary card word good is out room k (omega arith))
+        ∙ list-back 1 (made card word out) (carrierCount (carriersOf card) (offsetsOf card)) (omega arith) two (λ k h. made-binary card word good is out room k (omega arith))
 
 -- ---- Demand 3
 
 pub lanes : Lanes
 lanes band h b l =
-    let (least, most) = copies-range band h b l in
-    let fewest = agree bandCount (λ band. 12) fewestCopies tt band h in
-    let greatest = agree bandCount mostCopies (λ band. 13) tt band h in
+    let (least, most) = band-range band h b l in
+    let fewest = agree bandCount (λ band. 12) bandFewest tt band h in
+    let greatest = agree bandCount bandMost (λ band. 13) tt band h in
     (omega (arith, least, fewest), omega (arith, most, greatest))
+
+pub fewest : Fewest
+fewest band h = fewest-of band h ∙ agree bandCount bandFewest (λ band. 12) tt band h
 
 pub survives : Survives
 survives card word good is out items back room space damage h = comes-back card word good is out items back room damage space h
@@ -122,7 +126,7 @@ pub payload-survives : PayloadSurvives
 payload-survives card block good is out received back room damage space few = payload-back card good block is out received back room damage space few
 
 pub lengths : Lengths
-unfolding itemCount carrierCount carriers
+unfolding itemCount carrierCount carriers offsets
 lengths = (
   refl,
   refl,

@@ -19,7 +19,8 @@ use Rattle.pair_interleaver.specs.Interleave.{sourcePairBy, sourcePair}
 use Rattle.interleaver.specs.Source.{column}
 use Rattle.votes.specs.Votes.{carries, copies}
 use Rattle.bands.specs.Bands.{offsets, carriers}
-use Rattle.diversity.specs.Lanes.{laneBit, laneOf, carrierCount, itemCount}
+use Rattle.diversity.specs.Lanes.{laneBit, carrierCount, itemCount}
+use Rattle.diversity.specs.Copies.{copiesOf}
 use Rattle.payload_layout.specs.Layouts.{symbolBits, symbolCount, padBits, layoutFor, layoutOf}
 
 -- a report of a card as numbers: 0 and its fields, or the refusal and its values
@@ -29,15 +30,17 @@ numbers (refused n v w) = n ∷ v ∷ w ∷ []
 
 -- the bits on lanes I and Q at a place of a symbol, counted from 1
 abbrev lanesAt : ℕ → ℕ → ℕ → List ℕ
-lanesAt band symbol c = let n = 2 * ((symbol - 1) * carriers band + c) in laneOf band n ∷ laneOf band (n + 1) ∷ []
+lanesAt band symbol c =
+    let n = 2 * ((symbol - 1) * carriers band + c) in
+    laneBit (carriers band) (offsets band) n ∷ laneBit (carriers band) (offsets band) (n + 1) ∷ []
 
 -- the columns that the four bits of nibble n of the joined stream come from, as they go out
 abbrev turnOf : ℕ → List ℕ
 turnOf n = column n 0 ∷ column n 1 ∷ column n 2 ∷ column n 3 ∷ []
 
 -- how many lanes of a band carry a coded bit
-abbrev copiesOf : ℕ → ℕ → ℕ
-copiesOf band b = copies (itemCount band) (carries (laneOf band)) b
+abbrev lanesOf : ℕ → ℕ → ℕ
+lanesOf band b = copiesOf (carriers band) (offsets band) b
 
 -- the example card
 abbrev exampleCard : List ℕ
@@ -62,8 +65,8 @@ checks =
     ∷ (lanesAt 0 2 64, 0 ∷ 128 ∷ [])
     ∷ (lanesAt 0 1 410, 154 ∷ 26 ∷ [])
     -- P9 and P10: copies on bands 0 and 1
-    ∷ (copiesOf 0 0 ∷ copiesOf 0 27 ∷ [], 13 ∷ 12 ∷ [])
-    ∷ (copiesOf 1 0 ∷ copiesOf 1 3 ∷ [], 13 ∷ 12 ∷ [])
+    ∷ (lanesOf 0 0 ∷ lanesOf 0 27 ∷ [], 13 ∷ 12 ∷ [])
+    ∷ (lanesOf 1 0 ∷ lanesOf 1 3 ∷ [], 13 ∷ 12 ∷ [])
     -- P11: the example card, read and printed
     ∷ (numbers (readCard exampleCard), 0 ∷ 1 ∷ 0 ∷ 4 ∷ 1 ∷ 1 ∷ 0b10001000111 ∷ 0 ∷ 9_007_199_254_740_993 ∷ [])
     ∷ (
@@ -80,5 +83,5 @@ Agree [] = Unit {0}
 Agree (row ∷ rows) = (row .0 ≡ row .1) × Agree rows
 
 pub checks-agree : Agree checks
-unfolding cardText cardLines modeLines decimal binary places lowest tabulate readCard cardOf definedMode field pack byteOf bitOf feedback shifted afterShifts scramblerBit startOf sourcePair offsets carriers carrierCount itemCount laneBit carries copies sum count sourcePairBy plus layoutOf layoutFor padBits symbolCount symbolBits
+unfolding cardText cardLines modeLines decimal binary places lowest tabulate readCard cardOf definedMode field pack byteOf bitOf feedback shifted afterShifts scramblerBit startOf sourcePair offsets carriers carrierCount itemCount laneBit carries copies copiesOf sum count sourcePairBy plus layoutOf layoutFor padBits symbolCount symbolBits
 checks-agree = (refl, (refl, (refl, (refl, (refl, (refl, (refl, (refl, (refl, (refl, (refl, (refl, (refl, (refl, tt))))))))))))))

@@ -20,15 +20,16 @@ use Rattle.constellation.specs.Entries.{mapOutcome, sliceOutcome}
 use Rattle.scrambler.specs.Scrambler.{scrambled}
 use Rattle.interleaver.specs.Source.{codedBits}
 use Rattle.fec.specs.Coding.{codedBit}
-use Rattle.votes.specs.Votes.{carries as carriedBy, copies, wrongCopies, lostCopies}
+use Rattle.votes.specs.Votes.{copies, wrongCopies, lostCopies}
 use Rattle.votes.specs.Damage.{Damage, altered, lost}
-use Rattle.bands.specs.Bands.{bandCount}
-use Rattle.diversity.specs.Lanes.{laneOf, carrierCount, itemCount, fewestCopies}
+use Rattle.bands.specs.Bands.{bandCount, carriers, offsets}
+use Rattle.diversity.specs.Lanes.{laneBit, carrierCount, itemCount}
+use Rattle.diversity.specs.Copies.{copiesOf, fewestCopies}
 use Rattle.payload_layout.specs.Layouts.{items as itemsOf}
 use Rattle.payload_layout.specs.Items.{carries}
 use Rattle.payload.specs.Entries.{layoutOfCard, send as payloadSend, read as payloadRead}
 use Rattle.payload.specs.Words.{GoodCard as GoodPayloadCard, Block, made as payloadMade}
-use Rattle.frame_control.specs.Entries.{bandOf, tapsOf, send, read}
+use Rattle.frame_control.specs.Entries.{carriersOf, offsetsOf, itemCountOf, tapsOf, send, read}
 use Rattle.frame_control.specs.Words.{GoodCard, Word, made}
 
 -- ---- Demand 1: hand it anything
@@ -54,9 +55,9 @@ pub record Keeps : Type 0 where
 -- A word under a good card goes out, and each item is the coded bit that its lane carries.
 abbrev pub Outgoing : Type 0
 Outgoing =
-    (card word : List ℕ) → GoodCard card → Word word → (out : List ℕ) → itemCount (bandOf card) ≤ length out
-    → (send card word out .report ≡ done (itemCount (bandOf card)))
-    × ((n : ℕ) → n < itemCount (bandOf card) → getD (made card word out) n 0 ≡ codedBit 0 0 (tapsOf card) (bitOf word) (laneOf (bandOf card) n))
+    (card word : List ℕ) → GoodCard card → Word word → (out : List ℕ) → itemCountOf card ≤ length out
+    → (send card word out .report ≡ done (itemCountOf card))
+    × ((n : ℕ) → n < itemCountOf card → getD (made card word out) n 0 ≡ codedBit 0 0 (tapsOf card) (bitOf word) (laneBit (carriersOf card) (offsetsOf card) n))
 
 -- So does a payload block, scrambled before it is coded, and each item is the coded bit that it carries by the layout.
 abbrev pub PayloadOutgoing : Type 0
@@ -69,9 +70,9 @@ PayloadOutgoing =
 -- From clean carriers every word comes back whole, also through the constellation's points (frame control is QPSK).
 abbrev pub CleanReturn : Type 0
 CleanReturn =
-    (card word : List ℕ) → GoodCard card → Word word → (out back : List ℕ) → itemCount (bandOf card) ≤ length out → 16 ≤ length back
+    (card word : List ℕ) → GoodCard card → Word word → (out back : List ℕ) → itemCountOf card ≤ length out → 16 ≤ length back
     → (read card (made card word out) back ≡ record { report = done 16; out = word ++ drop 16 back })
-    × (tabulate (itemCount (bandOf card)) (throughPoints 1 (λ n. getD (made card word out) n 0)) ≡ made card word out)
+    × (tabulate (itemCountOf card) (throughPoints 1 (λ n. getD (made card word out) n 0)) ≡ made card word out)
 
 -- So does every rightly sized payload block, through the points of the card's modulation.
 abbrev pub PayloadCleanReturn : Type 0
@@ -96,25 +97,29 @@ CardReadAgain = (c : Card) → c .serial < 2 ^ 64 → (out : List ℕ) → write
 abbrev pub Lanes : Type 0
 Lanes =
     (band : ℕ) → band < bandCount → (b : ℕ) → b < 256
-    → (12 ≤ copies (itemCount band) (carriedBy (laneOf band)) b) × (copies (itemCount band) (carriedBy (laneOf band)) b ≤ 13)
+    → (12 ≤ copiesOf (carriers band) (offsets band) b) × (copiesOf (carriers band) (offsets band) b ≤ 13)
+
+-- The fewest lanes of a bit are 12 on both.
+abbrev pub Fewest : Type 0
+Fewest = (band : ℕ) → band < bandCount → fewestCopies (carriers band) (offsets band) ≡ 12
 
 -- twice the altered plus the lost carriers of a reception, held against what was made
 abbrev pub damageWeight : List ℕ → List ℕ → List ℕ → ℕ
-damageWeight card sent items = 2 * altered (carrierCount (bandOf card)) sent items + lost (carrierCount (bandOf card)) sent items
+damageWeight card sent items = 2 * altered (carrierCount (carriersOf card) (offsetsOf card)) sent items + lost (carrierCount (carriersOf card) (offsetsOf card)) sent items
 
--- Below 12, the fewest lanes of a bit, the word comes back exact.
+-- Below the fewest lanes of a bit the word comes back exact.
 abbrev pub Survives : Type 0
 Survives =
-    (card word : List ℕ) → GoodCard card → Word word → (out items back : List ℕ) → itemCount (bandOf card) ≤ length out → 16 ≤ length back
-    → Damage (itemCount (bandOf card)) items → damageWeight card (made card word out) items < fewestCopies (bandOf card)
+    (card word : List ℕ) → GoodCard card → Word word → (out items back : List ℕ) → itemCountOf card ≤ length out → 16 ≤ length back
+    → Damage (itemCountOf card) items → damageWeight card (made card word out) items < fewestCopies (carriersOf card) (offsetsOf card)
     → read card items back ≡ record { report = done 16; out = word ++ drop 16 back }
 
 -- For every good card and word some damage of exactly that number is refused with 7.
 abbrev pub BestPossible : Type 0
 BestPossible =
-    (card word : List ℕ) → GoodCard card → Word word → (out back : List ℕ) → itemCount (bandOf card) ≤ length out → 16 ≤ length back
-    → (items : List ℕ) × Damage (itemCount (bandOf card)) items
-    × (damageWeight card (made card word out) items ≡ fewestCopies (bandOf card)) × (number (read card items back .report) ≡ 7)
+    (card word : List ℕ) → GoodCard card → Word word → (out back : List ℕ) → itemCountOf card ≤ length out → 16 ≤ length back
+    → (items : List ℕ) × Damage (itemCountOf card) items
+    × (damageWeight card (made card word out) items ≡ fewestCopies (carriersOf card) (offsetsOf card)) × (number (read card items back .report) ≡ 7)
 
 -- ---- Beyond the demands
 
@@ -132,5 +137,5 @@ PayloadSurvives =
 -- The lengths that a caller makes room for: the items of a frame control by band, and the most items and bytes of a payload.
 abbrev pub Lengths : Type 0
 Lengths =
-    (itemCount 0 ≡ 3288) × (itemCount 1 ≡ 3144)
+    (itemCount (carriers 0) (offsets 0) ≡ 3288) × (itemCount (carriers 1) (offsets 1) ≡ 3144)
     × ((card : List ℕ) → GoodPayloadCard card → (itemsOf (layoutOfCard card) ≤ 9864) × (blockBytes (cardOf card .kind) ≤ 520))

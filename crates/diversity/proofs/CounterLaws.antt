@@ -17,7 +17,8 @@ use Rattle.bits.proofs.NumberLaws.{lt-cases}
 use Rattle.bits.proofs.ListLaws.{length-tabulate, getD-tabulate, tabulate-of, tabulate-ext, written-whole}
 use Rattle.bits.proofs.SumLaws.{sum-ext, sum-add, sum-within, count-next, count-none}
 use Rattle.votes.specs.Votes.{carries, copies, votes, majority, decided}
-use Rattle.diversity.specs.Lanes.{laneBit}
+use Rattle.diversity.specs.Lanes.{laneBit, itemCount}
+use Rattle.diversity.specs.Copies.{copiesOf}
 use Rattle.diversity.specs.Loops.Cycle.{cycleBit, cycleLane}
 use Rattle.diversity.specs.Loops.Counters.{middle, afterItem, counted, Adds, bitSum, pairSum}
 use Rattle.diversity.proofs.CopyLaws.{placesOf, copiesBy, copies-formula}
@@ -166,7 +167,7 @@ two-counters x y p q r s h k e f =
 
 module _ (C : ℕ) (os items : List ℕ) where
   abbrev all : ℕ
-  all = 2 * (length os * C)
+  all = itemCount C os
 
   -- the votes of all items for a place, and for a bit
   abbrev placeVotes : ℕ → ℕ → ℕ
@@ -185,7 +186,7 @@ module _ (C : ℕ) (os items : List ℕ) where
 
   -- and are few: a symbol of at most 512 carriers has at most four copies of a bit
   few-votes : (b v : ℕ) → C ≤ 512 → b < 256 → bitVotes b v ≤ 4 * length os
-  unfolding votes copies count copiesBy
+  unfolding votes copiesOf copies count copiesBy
   few-votes b v small h =
       let held : ℕ → ℕ = λ n. cond (carries (laneBit C os) n b && eqb (getD items n 0) v) 1 0 in
       let rode : ℕ → ℕ = λ n. cond (carries (laneBit C os) n b) 1 0 in

@@ -1,6 +1,7 @@
 -- What the proofs of `diversity` share, and its theorems. Assumes nothing.
 pub mod LaneLaws
-pub mod BandLaws
 pub mod CopyLaws
+pub mod LimitLaws
+pub mod BandLaws
 mod CycleLaws
 mod CounterLaws

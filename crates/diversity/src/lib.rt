@@ -6,18 +6,17 @@ ghost use mathlib.Core.Path.{_≡_};
 ghost use Prim.Native.Nat.{_+_, _-_, _*_, _/_, _%_, _<_, _≤_};
 ghost use lib.ListN.{length, getD, replicate};
 ghost use Rattle.bits.specs.Lists.{tabulate, written};
-ghost use Rattle.bands.specs.Bands.{bandCount};
 ghost use Rattle.votes.specs.Votes.{carries, majority as majorityOf, decided};
-ghost use Rattle.diversity.specs.Lanes.{laneBit, laneOf, itemCount};
+ghost use Rattle.diversity.specs.Lanes.{laneBit, itemCount};
 ghost use Rattle.diversity.specs.Loops.Cycle.{cycleBit, cycleLane};
 ghost use Rattle.diversity.specs.Loops.Counters.{middle, afterItem, Adds, pairSum, bitSum};
 
-// The items of a band's frame control.
-pub fn item_count(band: usize) -> usize
-    requires { ⌜ band < bandCount ⌝ }
-    ensures { λ r. ⌜ r ≡ itemCount band ⌝ }
+// The items of symbols of so many carriers, one symbol for each offset.
+pub fn item_count(carriers: usize, offsets: &[u8]) -> usize
+    requires { ⌜ (carriers ≤ 512) × (length (now offsets) < 32) ⌝ }
+    ensures { λ r. ⌜ r ≡ itemCount carriers (now (offsets .entry)) ⌝ }
 {
-    2 * (bands::symbols(band) * bands::carriers(band))
+    2 * (offsets.len() * carriers)
 }
 
 // The bit on lane I: the place as a byte plus the symbol's offset, wrapping on purpose.
@@ -98,10 +97,10 @@ fn copy_symbol(carriers: usize, offset: u8, cycle: &[u8], out: &mut [u8])
     }
 }
 
-// The items of all symbols, one after the other.
-fn copy_symbols(carriers: usize, offsets: &[u8], coded: &[u8], out: &mut [u8])
-    requires { ⌜ (length (now coded) ≡ 256) × (carriers ≤ 512) × (2 * (length (now offsets) * carriers) ≤ length (now out)) ⌝ }
-    ensures { λ _. ⌜ now (out .exit) ≡ written (2 * (length (now (offsets .entry)) * carriers)) (λ n. getD (now (coded .entry)) (laneBit carriers (now (offsets .entry)) n) 0) (now (out .entry)) ⌝ }
+// A copy of a coded bit on each lane, symbol by symbol.
+pub fn copy_items(carriers: usize, offsets: &[u8], coded: &[u8], out: &mut [u8])
+    requires { ⌜ (length (now coded) ≡ 256) × (carriers ≤ 512) × (itemCount carriers (now offsets) ≤ length (now out)) ⌝ }
+    ensures { λ _. ⌜ now (out .exit) ≡ written (itemCount carriers (now (offsets .entry))) (λ n. getD (now (coded .entry)) (laneBit carriers (now (offsets .entry)) n) 0) (now (out .entry)) ⌝ }
 {
     let mut cycle = no_cycle();
     fill_cycle(coded, &mut cycle);
@@ -112,16 +111,6 @@ fn copy_symbols(carriers: usize, offsets: &[u8], coded: &[u8], out: &mut [u8])
         n += 2 * carriers;
         s += 1;
     }
-}
-
-// A copy of a coded bit on each lane of a band's frame control.
-pub fn copy_items(band: usize, coded: &[u8], out: &mut [u8])
-    requires { ⌜ (band < bandCount) × (length (now coded) ≡ 256) × (itemCount band ≤ length (now out)) ⌝ }
-    ensures { λ _. ⌜ now (out .exit) ≡ written (itemCount band) (λ n. getD (now (coded .entry)) (laneOf band n) 0) (now (out .entry)) ⌝ }
-{
-    let offsets = bands::symbol_offsets();
-    let count = bands::symbols(band);
-    copy_symbols(bands::carriers(band), &offsets[..count], coded, out);
 }
 
 // ---- votes
@@ -167,8 +156,8 @@ fn count_symbol(carriers: usize, offset: u8, n: usize, items: &[u8], counters: &
 
 // The votes of all items, symbol by symbol.
 fn count_symbols(carriers: usize, offsets: &[u8], items: &[u8], counters: &mut [u8])
-    requires { ⌜ (carriers ≤ 512) × (2 * (length (now offsets) * carriers) ≤ length (now items)) × (length (now counters) ≡ 512) ⌝ }
-    ensures { λ _. ⌜ Adds 0 (2 * (length (now (offsets .entry)) * carriers)) (cycleLane carriers (now (offsets .entry))) (now (items .entry)) (now (counters .entry)) (now (counters .exit)) ⌝ }
+    requires { ⌜ (carriers ≤ 512) × (itemCount carriers (now offsets) ≤ length (now items)) × (length (now counters) ≡ 512) ⌝ }
+    ensures { λ _. ⌜ Adds 0 (itemCount carriers (now (offsets .entry))) (cycleLane carriers (now (offsets .entry))) (now (items .entry)) (now (counters .entry)) (now (counters .exit)) ⌝ }
 {
     let mut n: usize = 0;
     let mut s: usize = 0;
@@ -261,22 +250,12 @@ fn decide_counters(counters: &[u8]) -> [u8; 256]
     bits
 }
 
-// Each coded bit by strict majority of its copies in at most 31 symbols: 0, 1, or 2 where there is none.
-fn decide_symbols(carriers: usize, offsets: &[u8], items: &[u8]) -> [u8; 256]
-    requires { ⌜ (carriers ≤ 512) × (length (now offsets) < 32) × (2 * (length (now offsets) * carriers) ≤ length (now items)) ⌝ }
-    ensures { λ r. ⌜ r ≡ tabulate 256 (decided (2 * (length (now (offsets .entry)) * carriers)) (carries (laneBit carriers (now (offsets .entry)))) (now (items .entry))) ⌝ }
+// Each coded bit by strict majority of its copies: 0, 1, or 2 where there is none. A counter has room for the votes of 31 symbols.
+pub fn decide(carriers: usize, offsets: &[u8], items: &[u8]) -> [u8; 256]
+    requires { ⌜ (carriers ≤ 512) × (length (now offsets) < 32) × (itemCount carriers (now offsets) ≤ length (now items)) ⌝ }
+    ensures { λ r. ⌜ r ≡ tabulate 256 (decided (itemCount carriers (now (offsets .entry))) (carries (laneBit carriers (now (offsets .entry)))) (now (items .entry))) ⌝ }
 {
     let mut counters = middle_counters();
     count_symbols(carriers, offsets, items, &mut counters);
     decide_counters(&counters)
-}
-
-// Each coded bit of a band's frame control by strict majority of its copies.
-pub fn decide(band: usize, items: &[u8]) -> [u8; 256]
-    requires { ⌜ (band < bandCount) × (length (now items) ≡ itemCount band) ⌝ }
-    ensures { λ r. ⌜ r ≡ tabulate 256 (decided (itemCount band) (carries (laneOf band)) (now (items .entry))) ⌝ }
-{
-    let offsets = bands::symbol_offsets();
-    let count = bands::symbols(band);
-    decide_symbols(bands::carriers(band), &offsets[..count], items)
 }

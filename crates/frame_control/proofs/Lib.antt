@@ -1,3 +1,3 @@
 -- What the proofs of `frame_control` share, and its theorems. Assumes nothing.
 pub mod FrameLaws
-pub mod EntryLaws
+mod EntryLaws

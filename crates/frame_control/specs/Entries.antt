@@ -1,5 +1,5 @@
--- What sending and reading a frame control answer and leave in lent memory, for all inputs, by the rows of paper 01's table.
--- They serve kind 0. Assumes nothing.
+-- What sending and reading a frame control answer and leave in lent memory, for all inputs, by the rows of paper 01's table: over the
+-- carriers of a symbol and the offsets, which at the entries are those of the card's band. They serve kind 0. Assumes nothing.
 use mathlib.Core.Bool.{not}
 use mathlib.Core.List.{List, [], _∷_, _++_}
 use Prim.Native.Nat.{ℕ}
@@ -14,11 +14,18 @@ use Rattle.card.specs.Gate.{gateRows}
 use Rattle.fec.specs.Coding.{codedBit}
 use Rattle.fec.specs.Recovery.{dataBit, recoverRows}
 use Rattle.votes.specs.Votes.{carries, decided}
-use Rattle.diversity.specs.Lanes.{laneOf, itemCount}
+use Rattle.bands.specs.Bands.{carriers, offsets}
+use Rattle.diversity.specs.Lanes.{laneBit, itemCount}
 
--- the band and the taps of the card in some bytes
-abbrev pub bandOf : List ℕ → ℕ
-bandOf card = cardOf card .band
+-- the carriers of a symbol and the offsets that the card in some bytes names by its band, the items that they make, and its taps
+abbrev pub carriersOf : List ℕ → ℕ
+carriersOf card = carriers (cardOf card .band)
+
+abbrev pub offsetsOf : List ℕ → List ℕ
+offsetsOf card = offsets (cardOf card .band)
+
+abbrev pub itemCountOf : List ℕ → ℕ
+itemCountOf card = itemCount (carriersOf card) (offsetsOf card)
 
 abbrev pub tapsOf : List ℕ → ℕ
 tapsOf card = cardOf card .taps
@@ -26,42 +33,47 @@ tapsOf card = cardOf card .taps
 -- ---- sending
 
 -- item n: a copy of the coded bit that its lane carries
-unfoldable pub sentItem : ℕ → ℕ → List ℕ → ℕ → ℕ
-sentItem band taps word n = codedBit 0 0 taps (bitOf word) (laneOf band n)
+unfoldable pub sentItem : ℕ → List ℕ → ℕ → List ℕ → ℕ → ℕ
+sentItem carriers offsets taps word n = codedBit 0 0 taps (bitOf word) (laneBit carriers offsets n)
 
 -- the rows behind those of the card
-abbrev pub wordRows : ℕ → List ℕ → List ℕ → List Row
-wordRows band word out = row (not (eqb (length word) 16)) (Length (length word)) ∷ row (ltb (length out) (itemCount band)) (Room (itemCount band)) ∷ []
+abbrev pub wordRows : ℕ → List ℕ → List ℕ → List ℕ → List Row
+wordRows carriers offsets word out =
+    row (not (eqb (length word) 16)) (Length (length word))
+    ∷ row (ltb (length out) (itemCount carriers offsets)) (Room (itemCount carriers offsets))
+    ∷ []
 
--- a word by band and taps, and by the card in some bytes
-unfoldable pub sendBy : ℕ → ℕ → List ℕ → List ℕ → Outcome ℕ (List ℕ)
-sendBy band taps word out = outcome (wordRows band word out) out (itemCount band) (written (itemCount band) (sentItem band taps word) out)
+-- a word by carriers, offsets and taps, and by the card in some bytes
+unfoldable pub sendBy : ℕ → List ℕ → ℕ → List ℕ → List ℕ → Outcome ℕ (List ℕ)
+sendBy carriers offsets taps word out =
+    outcome (wordRows carriers offsets word out) out (itemCount carriers offsets) (written (itemCount carriers offsets) (sentItem carriers offsets taps word) out)
 
 unfoldable pub send : List ℕ → List ℕ → List ℕ → Outcome ℕ (List ℕ)
 send card word out =
-    outcome (gateRows 0 0 card ++ wordRows (bandOf card) word out) out (itemCount (bandOf card)) (written (itemCount (bandOf card)) (sentItem (bandOf card) (tapsOf card) word) out)
+    outcome (gateRows 0 0 card ++ wordRows (carriersOf card) (offsetsOf card) word out) out (itemCountOf card) (written (itemCountOf card) (sentItem (carriersOf card) (offsetsOf card) (tapsOf card) word) out)
 
 -- ---- reading
 
 -- each coded bit by strict majority of its copies: 2 where there is none
-abbrev pub decidedBit : ℕ → List ℕ → ℕ → ℕ
-decidedBit band items = decided (itemCount band) (carries (laneOf band)) items
+abbrev pub decidedBit : ℕ → List ℕ → List ℕ → ℕ → ℕ
+decidedBit carriers offsets items = decided (itemCount carriers offsets) (carries (laneBit carriers offsets)) items
 
 -- the rows behind those of the card: about the items, and about what they decide
-abbrev pub itemRows : ℕ → List ℕ → List ℕ → List Row
-itemRows band items out =
-    row (not (eqb (length items) (itemCount band))) (Length (length items))
+abbrev pub itemRows : ℕ → List ℕ → List ℕ → List ℕ → List Row
+itemRows carriers offsets items out =
+    row (not (eqb (length items) (itemCount carriers offsets))) (Length (length items))
     ∷ row (ltb (length out) 16) (Room 16)
     ∷ row (ltb (firstAbove 2 items) (length items)) (Item (firstAbove 2 items))
     ∷ []
 
-abbrev pub readRows : ℕ → ℕ → List ℕ → List ℕ → List Row
-readRows band taps items out = itemRows band items out ++ recoverRows 0 0 taps (decidedBit band items)
+abbrev pub readRows : ℕ → List ℕ → ℕ → List ℕ → List ℕ → List Row
+readRows carriers offsets taps items out = itemRows carriers offsets items out ++ recoverRows 0 0 taps (decidedBit carriers offsets items)
 
--- items by band and taps, and by the card in some bytes
-unfoldable pub readBy : ℕ → ℕ → List ℕ → List ℕ → Outcome ℕ (List ℕ)
-readBy band taps items out = outcome (readRows band taps items out) out 16 (bytesOf 16 (dataBit 0 0 (decidedBit band items)) ++ drop 16 out)
+-- items by carriers, offsets and taps, and by the card in some bytes
+unfoldable pub readBy : ℕ → List ℕ → ℕ → List ℕ → List ℕ → Outcome ℕ (List ℕ)
+readBy carriers offsets taps items out =
+    outcome (readRows carriers offsets taps items out) out 16 (bytesOf 16 (dataBit 0 0 (decidedBit carriers offsets items)) ++ drop 16 out)
 
 unfoldable pub read : List ℕ → List ℕ → List ℕ → Outcome ℕ (List ℕ)
 read card items out =
-    outcome (gateRows 0 0 card ++ readRows (bandOf card) (tapsOf card) items out) out 16 (bytesOf 16 (dataBit 0 0 (decidedBit (bandOf card) items)) ++ drop 16 out)
+    outcome (gateRows 0 0 card ++ readRows (carriersOf card) (offsetsOf card) (tapsOf card) items out) out 16 (bytesOf 16 (dataBit 0 0 (decidedBit (carriersOf card) (offsetsOf card) items)) ++ drop 16 out)

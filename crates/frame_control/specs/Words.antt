@@ -7,8 +7,7 @@ use lib.ListN.{length, getD, take}
 use Rattle.refusal.specs.Report.{done}
 use Rattle.card.specs.Card.{cardOf}
 use Rattle.card.specs.Gate.{gate}
-use Rattle.diversity.specs.Lanes.{itemCount}
-use Rattle.frame_control.specs.Entries.{bandOf, send}
+use Rattle.frame_control.specs.Entries.{itemCountOf, send}
 
 -- a good card (paper 01's term): no cause about cards refuses it at the frame-control entries
 abbrev pub GoodCard : List ℕ → Type 0
@@ -21,4 +20,4 @@ pub record Word (word : List ℕ) : Type 0 where
 
 -- what the outgoing side made: the items that it writes on success, no byte beyond
 abbrev pub made : List ℕ → List ℕ → List ℕ → List ℕ
-made card word out = take (itemCount (bandOf card)) (send card word out .out)
+made card word out = take (itemCountOf card) (send card word out .out)

@@ -7,10 +7,10 @@ use mathlib.Core.List.{List}
 use Prim.Native.Nat.{ℕ, _+_, _*_, _≤_, _<_}
 use native.Mathlib.Omega.{arith}
 use lib.Dec.{T, eqb→eq}
-use lib.ListN.{getD}
-use Rattle.bits.specs.Lists.{tabulate}
+use lib.ListN.{length, getD}
+use Rattle.bits.specs.Lists.{tabulate, firstAbove}
 use Rattle.bits.specs.Sums.{count}
-use Rattle.bits.proofs.ListLaws.{length-tabulate, getD-tabulate, tabulate-ext}
+use Rattle.bits.proofs.ListLaws.{length-tabulate, getD-tabulate, tabulate-ext, first-none}
 use Rattle.bits.proofs.SumLaws.{sum-ext, sum-pairs, sum-within, one-le, count-none}
 use Rattle.votes.specs.Votes.{carries, wrongItem, lostItem, copies, wrongCopies, lostCopies, decided}
 use Rattle.votes.specs.Damage.{Damage, alteredCarrier, lostCarrier, altered, lost}
@@ -41,6 +41,10 @@ carrier-within false false w l w′ l′ d x x′ = omega arith
 
 not-both : (s x : ℕ) → T (wrongItem s x) → T (lostItem x) → ⊥
 not-both s x w l = subst (λ (y : ℕ). T (wrongItem s y)) (eqb→eq x 2 l) w
+
+-- no item of a damage is above 2
+pub none-above : (N : ℕ) (items : List ℕ) → Damage N items → firstAbove 2 items ≡ length items
+none-above N items damage = sym (first-none 2 items (λ k h. omega (arith, damage .legal k (omega (arith, damage .long)))))
 
 -- ---- all carriers
 
@@ -168,7 +172,7 @@ module _ (K : ℕ) (on : ℕ → ℕ → Bool) (apart : Apart K on) (sent : List
 
 -- ---- any function from items to bits
 
-carries-bit : (lane : ℕ → ℕ) (n b : ℕ) → T (carries lane n b) → lane n ≡ b
+pub carries-bit : (lane : ℕ → ℕ) (n b : ℕ) → T (carries lane n b) → lane n ≡ b
 unfolding carries
 carries-bit lane n b t = eqb→eq (lane n) b t
 

@@ -4,10 +4,10 @@ use Prim.Native.Nat.{_+_, _-_, _*_, _≤_}
 use native.Mathlib.Nat.{zero-add}
 use native.Mathlib.Omega.{arith}
 use lib.ListN.{length}
-use Rattle.bits.proofs.NumberLaws.{row-next, row-within}
+use Rattle.bits.proofs.NumberLaws.{row-next}
 use Rattle.diversity.specs.Loops.Cycle.{cycleLane}
 use Rattle.diversity.specs.Loops.Counters.{Adds}
-use Rattle.diversity.proofs.LaneLaws.{rows-all}
+use Rattle.diversity.proofs.LaneLaws.{symbol-within, symbols-all}
 use Rattle.diversity.proofs.CycleLaws.{cycle-at}
 use Rattle.diversity.proofs.CounterLaws.{adds-none, adds-more, adds-all}
 use borrow.Author.Needs.{needs}
@@ -28,7 +28,7 @@ fits : (c : tie.In-loop Inv-loop μ-loop)
     c .before .loop .n + 2 * args .carriers ≤ length (args .items .now)
 fits c =
     let args = c .before .before .before .before .before .args in
-    omega (arith, row-within (c .before .loop .s) (args .carriers) (length (args .offsets .now)) (c .loop-test .taken))
+    omega (arith, symbol-within (args .carriers) (args .offsets .now) (c .before .loop .s) (c .before .loop .n) (c .before .loop .inv .1) (c .loop-test .taken))
 
 loop-holds : tie.Need-loop-holds Inv-loop μ-loop
 loop-holds c = (search needs, omega arith, search needs, adds-none _ _ _ _)
@@ -69,7 +69,7 @@ same-length : tie.Need-same-length Inv-loop μ-loop
 same-length c = search needs
 
 returns : tie.Need-returns Inv-loop μ-loop
-returns c = adds-all _ _ _ _ _ _ _ (c .before .loop .inv .3) (rows-all _ _ _ _ (c .before .loop .inv .1) (omega arith))
+returns c = adds-all _ _ _ _ _ _ _ (c .before .loop .inv .3) (symbols-all _ _ _ _ (c .before .loop .inv .1) (omega arith))
 
 pub count-symbols-spec : {M : Type 1} → statement M
 count-symbols-spec =

@@ -18,13 +18,13 @@ enum-known-r c = search needs
 enum-known-c : tie.Need-enum-known-c
 enum-known-c c = search needs
 
-cast-read-by : tie.Need-cast-read-by
-cast-read-by c =
+cast-read-on : tie.Need-cast-read-on
+cast-read-on c =
     let e = sym (c .before .before .before .before .served-card .ensures) ∙ ap cardRead (c .before .before .c .given .1) in
     omega (arith, gate-served 0 0 (now (c .before .before .before .before .before .before .before .before .args .card)) _ e .taps-lt)
 
-read-by-requires : tie.Need-read-by-requires
-read-by-requires c κs =
+read-on-requires : tie.Need-read-on-requires
+read-on-requires c κs =
     let e = sym (c .before .before .before .before .before .served-card .ensures) ∙ ap cardRead (c .before .before .before .c .given .1) in
     gate-served 0 0 (now (c .before .before .before .before .before .before .before .before .before .args .card)) _ e .band-lt
 
@@ -43,7 +43,7 @@ returns-2 c =
     let a = c .before .before .before .before .before .before .before .before .before .before .before .before .args in
     let e = sym (c .before .before .before .before .before .before .before .before .served-card .ensures) ∙ ap cardRead (c .before .before .before .before .before .before .c .given .1) in
     let passed = sym (read-passed (now (a .card)) (now (a .items)) (now (a .out)) _ e) in
-    let said = c .before .before .read-by .ensures in
+    let said = c .before .before .read-on .ensures in
     (said .0 ∙ ap (λ o. o .report) passed, said .1 ∙ ap (λ o. o .out) passed)
 
 pub read-spec : {M : Type 1} → statement M
@@ -53,8 +53,8 @@ read-spec =
     served-card-requires
     enum-known-r
     enum-known-c
-    cast-read-by
-    read-by-requires
+    cast-read-on
+    read-on-requires
     returns
     same-length
     returns-2)

@@ -27,7 +27,7 @@ returns-2 : tie.Need-returns-2
 unfolding readBy
 returns-2 c =
     let long = eq-eqb _ _ (rw (c .before .before .item-count .ensures) at (c .before .if1 .left)) in
-    let short = lt-ltb (length (now (c .before .before .before .before .before .args .out))) 16 (omega (arith, c .if2 .taken)) in
+    let short = lt-ltb (length (now (c .before .before .before .before .before .before .args .out))) 16 (omega (arith, c .if2 .taken)) in
     (simp (long, short), simp (long, short))
 
 first-above-requires : tie.Need-first-above-requires
@@ -59,11 +59,11 @@ same-length c = search needs
 returns-4 : tie.Need-returns-4
 returns-4 c =
     let o = c .before .before .before in
-    let a = o .before .before .before .before .before .before .before .before .before .before .args in
+    let a = o .before .before .before .before .before .before .before .before .before .before .before .args in
     let long = eq-eqb _ _ (rw (o .before .before .before .before .before .before .before .item-count .ensures) at (o .before .before .before .before .before .before .if1 .left)) in
     let room = le-ltb _ _ (o .before .before .before .before .before .if2 .left) in
     let legal = le-ltb _ _ (rw (o .before .before .before .before .first-above .ensures) at (o .before .before .before .if3 .left)) in
-    let read = sym (read-decided (a .band) (a .taps) (now (a .items)) (now (a .out)) _ (ap not long, (room, (legal, tt))) (o .before .before .decide .ensures)) in
+    let read = sym (read-decided (a .carriers) (now (a .offsets)) (a .taps) (now (a .items)) (now (a .out)) _ (ap not long, (room, (legal, tt))) (o .before .before .decide .ensures)) in
     let said = c .before .before .recover .ensures in
     (said .0 ∙ ap (λ o. o .report) read, said .1 ∙ ap (λ o. o .out) read)
 

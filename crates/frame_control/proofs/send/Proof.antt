@@ -18,13 +18,13 @@ enum-known-r c = search needs
 enum-known-c : tie.Need-enum-known-c
 enum-known-c c = search needs
 
-cast-send-by : tie.Need-cast-send-by
-cast-send-by c =
+cast-send-on : tie.Need-cast-send-on
+cast-send-on c =
     let e = sym (c .before .before .before .before .served-card .ensures) ∙ ap cardRead (c .before .before .c .given .1) in
     omega (arith, gate-served 0 0 (now (c .before .before .before .before .before .before .before .before .args .card)) _ e .taps-lt)
 
-send-by-requires : tie.Need-send-by-requires
-send-by-requires c κs =
+send-on-requires : tie.Need-send-on-requires
+send-on-requires c κs =
     let e = sym (c .before .before .before .before .before .served-card .ensures) ∙ ap cardRead (c .before .before .before .c .given .1) in
     gate-served 0 0 (now (c .before .before .before .before .before .before .before .before .before .args .card)) _ e .band-lt
 
@@ -43,7 +43,7 @@ returns-2 c =
     let a = c .before .before .before .before .before .before .before .before .before .before .before .before .args in
     let e = sym (c .before .before .before .before .before .before .before .before .served-card .ensures) ∙ ap cardRead (c .before .before .before .before .before .before .c .given .1) in
     let passed = sym (send-passed (now (a .card)) (now (a .word)) (now (a .out)) _ e) in
-    let sent = c .before .before .send-by .ensures in
+    let sent = c .before .before .send-on .ensures in
     (sent .0 ∙ ap (λ o. o .report) passed, sent .1 ∙ ap (λ o. o .out) passed)
 
 pub send-spec : {M : Type 1} → statement M
@@ -53,8 +53,8 @@ send-spec =
     served-card-requires
     enum-known-r
     enum-known-c
-    cast-send-by
-    send-by-requires
+    cast-send-on
+    send-on-requires
     returns
     same-length
     returns-2)

@@ -3,6 +3,7 @@ use native.Mathlib.Omega.{arith}
 use borrow.Author.Tests.{lt-ltb, le-ltb, eq-eqb, ne-eqb}
 use Rattle.card.proofs.ModeLaws.{defined-half}
 use Rattle.interleaver.proofs.InterleaverLaws.{coded-half}
+use Rattle.diversity.specs.Lanes.{carrierCount, itemCount}
 use Rattle.frame_control.specs.Entries.{sendBy}
 use Rattle.frame_control.proofs.EntryLaws.{items-sent}
 use borrow.Author.Needs.{needs}
@@ -36,6 +37,7 @@ slice-aggregate-copy-items : tie.Need-slice-aggregate-copy-items
 slice-aggregate-copy-items c = search needs
 
 copy-items-requires : tie.Need-copy-items-requires
+unfolding itemCount carrierCount
 copy-items-requires c κs = search needs
 
 same-length : tie.Need-same-length
@@ -48,7 +50,7 @@ returns-3 c =
     let long = eq-eqb _ _ (at .before .before .if1 .left) in
     let needed = at .before .item-count .ensures in
     let room = le-ltb _ _ (rw needed at (at .if2 .left)) in
-    (rw needed (simp (long, room)), simp (long, room) (items-sent _ _ _ _ _ _ _ (c .before .before .before .before .before .before .encode .ensures) (c .before .before .copy-items .ensures)))
+    (rw needed (simp (long, room)), simp (long, room) (items-sent _ _ _ _ _ _ _ _ (c .before .before .before .before .before .before .encode .ensures) (c .before .before .copy-items .ensures)))
 
 pub send-by-spec : {M : Type 1} → statement M
 send-by-spec =
