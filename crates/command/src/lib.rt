@@ -1,15 +1,13 @@
-// What the programs share: how they are called, files that arguments name, and numbers, answers and refusals on standard output.
+// What the programs share: how they are called, files that arguments name, and bytes and refusals on standard output.
 //
 // Internal: nothing here is a public entry. What the system's calls do is assumed, as in every program, and no contract can say what is
 // read or written.
 use libc::STDERR_FILENO;
 use libc::STDOUT_FILENO;
-use refusal::Answer;
 use refusal::Refusal;
 ghost use mathlib.Core.Path.{_≡_};
 ghost use lib.ListN.{length};
 ghost use Rattle.io.specs.Counts.{Counts};
-ghost use Rattle.refusal.specs.Report.{answer, number};
 ghost use Rattle.job.specs.Jobs.{refusalLines};
 
 // Some bytes on standard output.
@@ -63,23 +61,6 @@ pub fn read_file(i: usize, buf: &mut [u8]) -> usize
     }
     let n = io::read_full(fd, buf);
     libc::close(fd);
-    n
-}
-
-// A space and a number in decimal on standard output.
-pub fn put_number(n: u64) {
-    put(b" ");
-    io::print_decimal(STDOUT_FILENO, n);
-}
-
-// The number of an answer and what comes with it, behind a space each. The number is returned.
-pub fn put_answer(a: Answer) -> u32
-    ensures { λ n. ⌜ n ≡ number (answer a) ⌝ }
-{
-    let mut value = [0u64; 2];
-    let n = refusal::report(a, &mut value);
-    put_number(n as u64);
-    put_number(value[0]);
     n
 }
 

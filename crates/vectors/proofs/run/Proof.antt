@@ -7,12 +7,11 @@ use Rattle.vectors.proofs.run.Statement.{statement}
 use Rattle.vectors.proofs.run.Tie as tie
 
 abbrev Inv-loop : tie.InvT-loop
-Inv-loop fd records₀ mismatches₀ card₀ input₀ expected₀ k₀ t9 records mismatches card input expected k =
-    (length card ≡ 64) × (length input ≡ 10000) × (length expected ≡ 10000) × (k ≤ 1000000)
+Inv-loop fd records₀ mismatches₀ input₀ expected₀ k₀ t7 records mismatches input expected k =
+    (length input ≡ 10000) × (length expected ≡ 10000) × (k ≤ 1000000)
 
 abbrev μ-loop : tie.MeasureT-loop
-μ-loop fd records₀ mismatches₀ card₀ input₀ expected₀ k₀ t9 records mismatches card input expected k =
-    1000000 - k
+μ-loop fd records₀ mismatches₀ input₀ expected₀ k₀ t7 records mismatches input expected k = 1000000 - k
 
 loop-holds : tie.Need-loop-holds Inv-loop μ-loop
 loop-holds c = search needs
@@ -23,14 +22,8 @@ slice-aggregate-run-record c = search needs
 slice-aggregate-run-record-2 : tie.Need-slice-aggregate-run-record-2 Inv-loop μ-loop
 slice-aggregate-run-record-2 c = search needs
 
-slice-aggregate-run-record-3 : tie.Need-slice-aggregate-run-record-3 Inv-loop μ-loop
-slice-aggregate-run-record-3 c = search needs
-
 run-record-requires : tie.Need-run-record-requires Inv-loop μ-loop
 run-record-requires c κs = search needs
-
-counted-requires : tie.Need-counted-requires Inv-loop μ-loop
-counted-requires c κs = search needs
 
 returns : tie.Need-returns Inv-loop μ-loop
 returns c = search needs
@@ -62,9 +55,7 @@ run-spec =
     loop-holds
     slice-aggregate-run-record
     slice-aggregate-run-record-2
-    slice-aggregate-run-record-3
     run-record-requires
-    counted-requires
     returns
     add-k
     loop-less

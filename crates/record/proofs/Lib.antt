@@ -1,0 +1,2 @@
+-- The laws of what `record` defines. Assumes nothing.
+mod ExpectedLaws

@@ -1,0 +1,2 @@
+-- What the contracts of `record` cite. Assumes nothing.
+pub mod Expected

@@ -1,2 +1,0 @@
--- The laws of what `record_file` defines. Assumes nothing.
-pub mod ExpectedLaws

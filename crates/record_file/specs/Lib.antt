@@ -1,2 +1,0 @@
--- What the contracts of `record_file` cite. Assumes nothing.
-pub mod Expected
