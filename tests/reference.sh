@@ -25,10 +25,9 @@ case ${1-} in
     done
     reference/target/release/vectors points > "$made/points"
     cmp "$made/points" crates/constellation_vectors/stdout
-    if [ -d crates/vectors ]; then
-      reference/target/release/vectors entries "$made"
-      cmp "$made/entries.bin" crates/vectors/data/entries.bin
-    fi
+    reference/target/release/vectors entries "$made"
+    cmp "$made/entries.bin" crates/vectors/data/entries.bin
+    cmp "$made/entries.txt" crates/vectors/stdout
     ;;
   crosscheck)
     library
