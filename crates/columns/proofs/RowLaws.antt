@@ -15,7 +15,8 @@ use Rattle.bits.proofs.BitLaws.{byte-bit}
 use Rattle.bits.specs.Loops.Words.{wordByte, stored}
 use Rattle.bits.proofs.NumberLaws.{below-four}
 use Rattle.bits.proofs.StoreLaws.{stored-run}
-use Rattle.columns.specs.Columns.{rowed, tallest}
+use Rattle.columns.specs.Columns.{rowed}
+use Rattle.columns.specs.Loops.Heights.{tallest}
 
 -- ---- the tallest columns
 

@@ -1,2 +1,3 @@
 -- What the contracts of `columns` cite. Assumes nothing.
 pub mod Columns
+pub mod Loops

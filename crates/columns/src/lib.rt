@@ -8,7 +8,8 @@ ghost use lib.ListN.{length, getD};
 ghost use Rattle.bits.specs.Lists.{written};
 ghost use Rattle.bits.specs.Bits.{bitAt, bitOf, pack, byteOf};
 ghost use Rattle.bits.specs.Loops.Words.{wordByte};
-ghost use Rattle.columns.specs.Columns.{rowed, unrowed, tallest};
+ghost use Rattle.columns.specs.Columns.{rowed, unrowed};
+ghost use Rattle.columns.specs.Loops.Heights.{ServedHeight};
 
 // Row j of eight whose columns are the bytes of a word: one bit of each byte.
 fn row(word: u32, j: usize) -> u32
@@ -68,7 +69,7 @@ fn rows_by_bits(height: usize, bytes: &[u8], out: &mut [u8])
 
 // The rows of four columns of `height` bits each, which some bytes fill column by column, at the start of `out`.
 pub fn to_rows(height: usize, bytes: &[u8], out: &mut [u8])
-    requires { ⌜ (2 * length (now bytes) ≡ height) × (0 < height) × (height ≤ tallest height) × (4 * height ≤ length (now out)) ⌝ }
+    requires { ⌜ ServedHeight height × (2 * length (now bytes) ≡ height) × (4 * height ≤ length (now out)) ⌝ }
     ensures { λ _. ⌜ now (out .exit) ≡ written (4 * height) (rowed height (bitOf (now (bytes .entry)))) (now (out .entry)) ⌝ }
 {
     if height % 8 == 0 {
@@ -138,7 +139,8 @@ fn columns_by_bits(height: usize, rows: &[u8], out: &mut [u8])
 
 // The bytes that fill four columns of `height` bits each, column by column, from the columns' rows, at the start of `out`.
 pub fn from_rows(height: usize, rows: &[u8], out: &mut [u8])
-    requires { ⌜ (2 * (height / 2) ≡ height) × (0 < height) × (height ≤ tallest height) × (length (now rows) ≡ 4 * height) × (height / 2 ≤ length (now out)) × ((j : ℕ) → j < 4 * height → getD (now rows) j 0 < 2) ⌝ }
+    requires { ⌜ ServedHeight height × (length (now rows) ≡ 4 * height) × (height / 2 ≤ length (now out)) ⌝ }
+    requires { ⌜ ((j : ℕ) → j < 4 * height → getD (now rows) j 0 < 2) ⌝ }
     ensures { λ _. ⌜ now (out .exit) ≡ written (height / 2) (byteOf (unrowed height (λ j. getD (now (rows .entry)) j 0))) (now (out .entry)) ⌝ }
 {
     if height % 8 == 0 {

@@ -1,5 +1,5 @@
 -- A block's source bits in rows, and the bytes that they fill. Assumes nothing.
-use mathlib.Core.Path.{_≡_, sym, ap, ap₂, _∙_}
+use mathlib.Core.Path.{_≡_, subst, sym, ap, ap₂, _∙_}
 use mathlib.Core.List.{List, _++_}
 use Prim.Native.Nat.{ℕ, _+_, _-_, _*_, _/_, _%_, _≤_, _<_}
 use native.Mathlib.Nat.{mod-lt, div-add-mod', div-lt-iff-lt-mul}
@@ -15,7 +15,8 @@ use Rattle.bits.proofs.BitLaws.{Binary, bytes-ext, written-bits}
 use Rattle.bits.proofs.ListLaws.{length-written, getD-written, written-ext, written-part}
 use Rattle.bits.proofs.RangeLaws.{at-each, at-each₂, agree₂}
 use Rattle.card.specs.Modes.{blockBytes, Defined}
-use Rattle.columns.specs.Columns.{rowed, unrowed, tallest}
+use Rattle.columns.specs.Columns.{rowed, unrowed}
+use Rattle.columns.specs.Loops.Heights.{tallest, ServedHeight}
 use Rattle.turbo.specs.Puncture.{keptCount}
 use Rattle.turbo.specs.Parity.{keptBit}
 use Rattle.turbo.proofs.ParityLaws.{kept-binary}
@@ -35,10 +36,6 @@ dataHeight kind = blockBytes kind * 2
 abbrev pub parityHeight : ℕ → ℕ → ℕ
 parityHeight kind rate = shapeOf kind rate .parity
 
--- a height that the columns serve, in whole pairs of rows
-abbrev pub Served : ℕ → Type 0
-Served h = (0 < h) × (h ≤ tallest h) × (2 * (h / 2) ≡ h)
-
 -- four columns of h rows: the column of place k, and that a place of the rows leads back to k
 column-lt : (k h : ℕ) → 0 < h → k < 4 * h → k / h < 4
 column-lt k h pos l = div-lt-iff-lt-mul {x = k} {y = 4} pos .1 l
@@ -47,21 +44,21 @@ place-back : (k h : ℕ) → k / h < 4 → (k % h * 4 + k / h) % 4 * h + (k % h 
 place-back k h c = ap₂ (λ (i j : ℕ). i * h + j) (digits-mod (k % h) c) (digits-div (k % h) c) ∙ div-add-mod' k h
 
 module _ (kind rate high low : ℕ) (D : Defined kind rate) (eh : high ≡ dataHeight kind) (el : low ≡ parityHeight kind rate) where
-  pub data-served : Served high
+  pub data-served : ServedHeight high
   data-served =
-      rw eh (
-        ltb→lt 0 _ (at-each 5 (λ k. ltb 0 (dataHeight k)) tt kind (D .kind-lt)),
-        leb→le _ _ (at-each 5 (λ k. leb (dataHeight k) (tallest (dataHeight k))) tt kind (D .kind-lt)),
-        let e : 2 * (dataHeight kind / 2) ≡ dataHeight kind = omega arith in e,
-      )
+      subst ServedHeight (sym eh) record {
+        some = ltb→lt 0 _ (at-each 5 (λ k. ltb 0 (dataHeight k)) tt kind (D .kind-lt));
+        fits = leb→le _ _ (at-each 5 (λ k. leb (dataHeight k) (tallest (dataHeight k))) tt kind (D .kind-lt));
+        even = omega arith;
+      }
 
-  pub parity-served : Served low
+  pub parity-served : ServedHeight low
   parity-served =
-      rw el (
-        ltb→lt 0 _ (at-each₂ 5 2 (λ k r. ltb 0 (parityHeight k r)) tt kind rate (D .kind-lt) (D .rate-lt)),
-        leb→le _ _ (at-each₂ 5 2 (λ k r. leb (parityHeight k r) (tallest (parityHeight k r))) tt kind rate (D .kind-lt) (D .rate-lt)),
-        agree₂ 5 2 (λ k r. 2 * (parityHeight k r / 2)) parityHeight tt kind rate (D .kind-lt) (D .rate-lt),
-      )
+      subst ServedHeight (sym el) record {
+        some = ltb→lt 0 _ (at-each₂ 5 2 (λ k r. ltb 0 (parityHeight k r)) tt kind rate (D .kind-lt) (D .rate-lt));
+        fits = leb→le _ _ (at-each₂ 5 2 (λ k r. leb (parityHeight k r) (tallest (parityHeight k r))) tt kind rate (D .kind-lt) (D .rate-lt));
+        even = agree₂ 5 2 (λ k r. 2 * (parityHeight k r / 2)) parityHeight tt kind rate (D .kind-lt) (D .rate-lt);
+      }
 
   -- the kept parity bits fill the parity rows, and their bytes are whole
   pub kept-rows : keptCount kind rate ≡ 4 * low
@@ -69,7 +66,7 @@ module _ (kind rate high low : ℕ) (D : Defined kind rate) (eh : high ≡ dataH
   kept-rows = omega (arith, coded-count kind rate D)
 
   pub kept-bytes : (keptCount kind rate / 8 ≡ low / 2) × (8 * (keptCount kind rate / 8) ≡ keptCount kind rate)
-  kept-bytes = (omega (arith, kept-rows, parity-served .2), omega (arith, kept-rows, parity-served .2))
+  kept-bytes = (omega (arith, kept-rows, parity-served .even), omega (arith, kept-rows, parity-served .even))
 
   pub all-rows : 4 * high + 4 * low ≡ codedBits kind rate
   all-rows = omega (arith, kept-rows, coded-count kind rate D)
@@ -158,26 +155,42 @@ module _ (kind rate high low : ℕ) (D : Defined kind rate) (eh : high ≡ dataH
     row-binary b j h =
         rw (row-held j h) (b (codedAt kind rate (rowSource kind rate j)) (coded-lt kind rate D (rowSource kind rate j) (row-source-lt kind rate D j h)))
 
+    -- a part of the rows: element j of it stands at `at j` of the rows, and bit k of its columns is source bit `from k`
+    module _ (h : ℕ) (at from : ℕ → ℕ) (part : List ℕ) (pos : 0 < h) (inside : (j : ℕ) → j < 4 * h → at j < codedBits kind rate)
+        (held : (j : ℕ) → j < 4 * h → getD part j 0 ≡ getD rows (at j) 0)
+        (sources : (j : ℕ) → j < 4 * h → rowSource kind rate (at j) ≡ from (j % 4 * h + j / 4)) where
+      part-binary : Binary (codedBits kind rate) decidedAt → (j : ℕ) → j < 4 * h → getD part j 0 < 2
+      part-binary b j l = rw (held j l) (row-binary b (at j) (inside j l))
+
+      part-unrowed : (k : ℕ) → k < 4 * h → unrowed h (λ j. getD part j 0) k ≡ decidedAt (codedAt kind rate (from k))
+      unfolding unrowed
+      part-unrowed k l =
+          let c : k / h < 4 = column-lt k h pos l in
+          let r : k % h < h = mod-lt k pos in
+          let j : ℕ = k % h * 4 + k / h in
+          let b : j < 4 * h = omega arith in
+          held j b ∙ row-held (at j) (inside j b) ∙ ap (λ (s : ℕ). decidedAt (codedAt kind rate s)) (sources j b ∙ ap from (place-back k h c))
+
     -- the data rows
-    pub data-rows-binary : Binary (codedBits kind rate) decidedAt → (j : ℕ) → j < 4 * high → getD (take (4 * high) rows) j 0 < 2
-    data-rows-binary b j h = rw (getD-take (4 * high) rows j 0 h) (row-binary b j (omega (arith, all-rows)))
+    abbrev pub dataRows : List ℕ
+    dataRows = take (4 * high) rows
 
-    data-unrowed : (k : ℕ) → k < dataBits kind → unrowed high (λ j. getD (take (4 * high) rows) j 0) k ≡ dataBit kind rate decidedAt k
-    unfolding unrowed dataBit
+    data-row : (j : ℕ) → j < 4 * high → getD dataRows j 0 ≡ getD rows j 0
+    data-row j h = getD-take (4 * high) rows j 0 h
+
+    pub data-rows-binary : Binary (codedBits kind rate) decidedAt → (j : ℕ) → j < 4 * high → getD dataRows j 0 < 2
+    data-rows-binary = part-binary high (λ j. j) (λ k. k) dataRows (data-served .some) (λ j h. omega (arith, all-rows)) data-row source-in-data
+
+    data-unrowed : (k : ℕ) → k < dataBits kind → unrowed high (λ j. getD dataRows j 0) k ≡ dataBit kind rate decidedAt k
+    unfolding dataBit
     data-unrowed k h =
-        let c : k / high < 4 = column-lt k high (data-served .0) (omega arith) in
-        let r : k % high < high = mod-lt k (data-served .0) in
-        let j : ℕ = k % high * 4 + k / high in
-        let l : j < 4 * high = omega arith in
-        getD-take (4 * high) rows j 0 l
-        ∙ row-held j (omega (arith, all-rows))
-        ∙ ap (λ (s : ℕ). decidedAt (codedAt kind rate s)) (source-in-data j l ∙ place-back k high c)
+        part-unrowed high (λ j. j) (λ k. k) dataRows (data-served .some) (λ j h. omega (arith, all-rows)) data-row source-in-data k (omega arith)
 
-    pub block-written : (block : List ℕ) → written (high / 2) (byteOf (unrowed high (λ j. getD (take (4 * high) rows) j 0))) block
+    pub block-written : (block : List ℕ) → written (high / 2) (byteOf (unrowed high (λ j. getD dataRows j 0))) block
         ≡ written (blockBytes kind) (byteOf (dataBit kind rate decidedAt)) block
     block-written block =
         let n : high / 2 ≡ blockBytes kind = omega arith in
-        ap (λ (m : ℕ). written m (byteOf (unrowed high (λ j. getD (take (4 * high) rows) j 0))) block) n
+        ap (λ (m : ℕ). written m (byteOf (unrowed high (λ j. getD dataRows j 0))) block) n
         ∙ bytes-ext (blockBytes kind) _ (dataBit kind rate decidedAt) data-unrowed block
 
     -- the parity rows
@@ -192,18 +205,15 @@ module _ (kind rate high low : ℕ) (D : Defined kind rate) (eh : high ≡ dataH
         getD-take (codedBits kind rate - 4 * high) (drop (4 * high) rows) j 0 (omega (arith, all-rows)) ∙ getD-drop (4 * high) rows j 0
 
     pub parity-rows-binary : Binary (codedBits kind rate) decidedAt → (j : ℕ) → j < 4 * low → getD parityRows j 0 < 2
-    parity-rows-binary b j h = rw (parity-row j h) (row-binary b (4 * high + j) (omega (arith, all-rows)))
+    parity-rows-binary =
+        part-binary low (λ j. 4 * high + j) (λ k. dataBits kind + k) parityRows (parity-served .some) (λ j h. omega (arith, all-rows)) parity-row
+        (λ j h. source-in-parity j)
 
     parity-unrowed : (k : ℕ) → k < keptCount kind rate → unrowed low (λ j. getD parityRows j 0) k ≡ parityBit kind rate decidedAt k
-    unfolding unrowed parityBit
+    unfolding parityBit
     parity-unrowed k h =
-        let c : k / low < 4 = column-lt k low (parity-served .0) (omega (arith, kept-rows)) in
-        let r : k % low < low = mod-lt k (parity-served .0) in
-        let j : ℕ = k % low * 4 + k / low in
-        let l : j < 4 * low = omega arith in
-        parity-row j l
-        ∙ row-held (4 * high + j) (omega (arith, all-rows))
-        ∙ ap (λ (s : ℕ). decidedAt (codedAt kind rate s)) (source-in-parity j ∙ ap (_+_ (dataBits kind)) (place-back k low c))
+        part-unrowed low (λ j. 4 * high + j) (λ k. dataBits kind + k) parityRows (parity-served .some) (λ j h. omega (arith, all-rows)) parity-row
+        (λ j h. source-in-parity j) k (omega (arith, kept-rows))
 
     pub parity-written : (parity : List ℕ) → written (low / 2) (byteOf (unrowed low (λ j. getD parityRows j 0))) parity
         ≡ written (keptCount kind rate / 8) (byteOf (parityBit kind rate decidedAt)) parity

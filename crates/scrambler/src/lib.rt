@@ -3,12 +3,12 @@
 // Internal: nothing here is a public entry. A function with a `requires` is called only where its caller has shown it.
 ghost use mathlib.Core.Path.{_≡_};
 ghost use mathlib.Core.List.{_++_};
-ghost use Prim.Native.Nat.{ℕ, _-_, _<_, _≤_};
-ghost use lib.Bits.{bitXor};
-ghost use lib.ListN.{length, getD, drop};
+ghost use Prim.Native.Nat.{_≤_};
+ghost use lib.ListN.{length, drop};
 ghost use Rattle.bits.specs.Bits.{pack};
 ghost use Rattle.bits.specs.Lists.{written};
 ghost use Rattle.scrambler.specs.Scrambler.{feedback, shifted, afterShifts, scramblerBit, allOnes, scramblerByte, scramble};
+ghost use Rattle.scrambler.specs.Loops.Following.{Following};
 
 // Ten stages: stage i is bit i - 1. A step ignores the bits above them.
 pub struct Register(pub u16);
@@ -84,9 +84,7 @@ fn step_bytes(count: usize, out: &mut [u8])
 // The scrambler's bytes from its first `from`: each is the exclusive-or of the bytes `far` and `near` before it, far quicker than
 // eight steps of the register.
 fn follow_bytes(from: usize, far: usize, near: usize, count: usize, out: &mut [u8])
-    requires { ⌜ (0 < near) × (near ≤ far) × (far ≤ from) × (from ≤ count) × (count ≤ length (now out)) ⌝ }
-    requires { ⌜ ((k : ℕ) → k < from → getD (now out) k 0 ≡ scramblerByte k) ⌝ }
-    requires { ⌜ ((i : ℕ) → far ≤ i → bitXor (scramblerByte (i - far)) (scramblerByte (i - near)) ≡ scramblerByte i) ⌝ }
+    requires { ⌜ Following from far near count (now out) ⌝ }
     ensures { λ _. ⌜ now (out .exit) ≡ written count scramblerByte (now (out .entry)) ⌝ }
 {
     let mut i: usize = from;
@@ -97,7 +95,7 @@ fn follow_bytes(from: usize, far: usize, near: usize, count: usize, out: &mut [u
 }
 
 // The scrambler's bytes, at the start of `out`. The law of bytes ten and three before holds of eighty and twenty-four before too,
-// and there the compiler takes sixteen at a time.
+// which is faster, since more bytes can be made at a time.
 fn put_bytes(count: usize, out: &mut [u8])
     requires { ⌜ count ≤ length (now out) ⌝ }
     ensures { λ _. ⌜ now (out .exit) ≡ written count scramblerByte (now (out .entry)) ⌝ }

@@ -14,7 +14,7 @@ ghost use Rattle.constituent.specs.Loops.Bytes.{fourFrom};
 ghost use Rattle.pair_interleaver.specs.Interleave.{interleaved};
 ghost use Rattle.pair_interleaver.specs.Loops.Gather.{twice};
 ghost use Rattle.turbo.specs.Puncture.{pattern, keptCount};
-ghost use Rattle.turbo.specs.Loops.Keeping.{keptFrom, twoRows, punctured, Inputs};
+ghost use Rattle.turbo.specs.Loops.Keeping.{Puncturing, keptFrom, twoRows, punctured, Inputs};
 ghost use Rattle.turbo.specs.Parity.{keptBit};
 
 // The puncturing pattern of each rate, its first place in the highest bit.
@@ -79,7 +79,7 @@ fn two_rows(packed: &[u8], t: usize, a: usize, b: usize) -> u8
 // The kept of the parity bits in `packed`, eight to a byte, at the start of `out`, at a rate that keeps two times of every sixteen: two rows
 // of sixteen give a byte.
 fn keep(kind: usize, rate: usize, packed: &[u8], out: &mut [u8])
-    requires { ⌜ (kind < 5) × (rate ≡ 1) × (blockBytes kind ≤ length (now packed)) × (length (now packed) < 65536) × (keptCount kind rate / 8 ≤ length (now out)) ⌝ }
+    requires { ⌜ Puncturing kind rate (now packed) (now out) ⌝ }
     ensures { λ _. ⌜ now (out .exit) ≡ written (keptCount kind rate / 8) (byteOf (punctured kind rate (bitOf (now (packed .entry))))) (now (out .entry)) ⌝ }
 {
     let a = next_kept(rate, 0);

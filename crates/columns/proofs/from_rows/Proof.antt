@@ -14,8 +14,8 @@ use Rattle.columns.proofs.from_rows.Tie as tie
 columns-by-words-requires : tie.Need-columns-by-words-requires
 columns-by-words-requires c κs =
     let z = c .before .before .before .before in
-    let t : z .args .height ≤ 1040 = in-bytes (z .args .height) (omega arith) (z .pre .2) in
-    ((omega arith, omega arith, search needs), λ j h. z .pre .5 j (omega arith))
+    let t : z .args .height ≤ 1040 = in-bytes (z .args .height) (omega arith) (z .pre .0 .0 .fits) in
+    ((omega arith, omega arith, search needs), λ j h. z .pre .1 j (omega arith))
 
 same-length : tie.Need-same-length
 same-length c = search needs
@@ -31,7 +31,7 @@ returns c =
 columns-by-bits-requires : tie.Need-columns-by-bits-requires
 columns-by-bits-requires c κs =
     let z = c .before .before .before .before in
-    ((z .pre .0, not-in-bytes (z .args .height) (λ e. omega arith) (z .pre .2), z .pre .3, search needs), z .pre .5)
+    ((z .pre .0 .0 .even, not-in-bytes (z .args .height) (λ e. omega arith) (z .pre .0 .0 .fits), z .pre .0 .1, search needs), z .pre .1)
 
 same-length-2 : tie.Need-same-length-2
 same-length-2 c = search needs

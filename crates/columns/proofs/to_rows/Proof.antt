@@ -13,7 +13,7 @@ use Rattle.columns.proofs.to_rows.Tie as tie
 rows-by-words-requires : tie.Need-rows-by-words-requires
 rows-by-words-requires c κs =
     let z = c .before .before .before .before in
-    let h : z .args .height ≤ 1040 = in-bytes (z .args .height) (omega arith) (z .pre .2) in
+    let h : z .args .height ≤ 1040 = in-bytes (z .args .height) (omega arith) (z .pre .0 .fits) in
     search needs
 
 same-length : tie.Need-same-length
@@ -29,7 +29,7 @@ returns c =
 rows-by-bits-requires : tie.Need-rows-by-bits-requires
 rows-by-bits-requires c κs =
     let z = c .before .before .before .before in
-    let h : z .args .height ≤ 130 = not-in-bytes (z .args .height) (λ e. omega arith) (z .pre .2) in
+    let h : z .args .height ≤ 130 = not-in-bytes (z .args .height) (λ e. omega arith) (z .pre .0 .fits) in
     search needs
 
 same-length-2 : tie.Need-same-length-2

@@ -45,7 +45,7 @@ to-rows-requires c κs =
     let z = c .before .before .before .before .before .before .before .before .before .before in
     let e = c .before .before .before .before .before .data-rows .ensures in
     let s = data-served (z .args .kind) (z .args .rate) _ _ (z .pre .0 .0) e refl in
-    (omega (arith, z .pre .0 .1, e), s .0, s .1, omega (arith, z .pre .1 .1, all-rows (z .args .kind) (z .args .rate) _ _ (z .pre .0 .0) e refl))
+    (s, omega (arith, z .pre .0 .1, e), omega (arith, z .pre .1 .1, all-rows (z .args .kind) (z .args .rate) _ _ (z .pre .0 .0) e refl))
 
 parity-rows-requires : tie.Need-parity-rows-requires
 parity-rows-requires c κs = search needs
@@ -74,9 +74,8 @@ to-rows-requires-2 c κs =
     let s = parity-served (z .args .kind) (z .args .rate) _ _ (z .pre .0 .0) e f in
     let all = all-rows (z .args .kind) (z .args .rate) _ _ (z .pre .0 .0) e f in
     let n = kept-bytes (z .args .kind) (z .args .rate) _ _ (z .pre .0 .0) e f in (
-      simp length-take (omega (arith, k, made-long (c .before .before .before .before .before .before .before .before .before), n .0, s .2)),
-      s .0,
-      s .1,
+      s,
+      simp length-take (omega (arith, k, made-long (c .before .before .before .before .before .before .before .before .before), n .0, s .even)),
       simp (length-take, length-drop) (omega (arith, data-long (c .before .before .before .before .before), all, z .pre .1 .1)),
     )
 

@@ -44,11 +44,7 @@ from-rows-requires c κs =
     let z = c .before .before .before .before .before .before .before .before .before .before .before in
     let e = c .before .before .before .before .before .before .data-rows .ensures in
     let s = data-served (z .args .kind) (z .args .rate) _ _ (z .pre .0 .0) e refl in (
-      s .2,
-      s .0,
-      s .1,
-      length-take-le _ _ (long d),
-      omega (arith, e, z .pre .1 .1),
+      (s, length-take-le _ _ (long d), omega (arith, e, z .pre .1 .1)),
       data-rows-binary (z .args .kind) (z .args .rate) _ _ (z .pre .0 .0) e refl (z .args .decided .now) _ _ (z .pre .1 .0) (d .deinterleave .ensures) (decided-binary _ _ _ (z .pre .0 .1) (z .pre .0 .2)),
     )
 
@@ -74,11 +70,7 @@ from-rows-requires-2 c κs =
     let f = c .before .before .before .parity-rows .ensures in
     let s = parity-served (z .args .kind) (z .args .rate) _ _ (z .pre .0 .0) e f in
     let n = kept-bytes (z .args .kind) (z .args .rate) _ _ (z .pre .0 .0) e f in (
-      s .2,
-      s .0,
-      s .1,
-      rw (z .pre .0 .1) (parity-rows-long (z .args .kind) (z .args .rate) _ _ (z .pre .0 .0) e f (z .args .decided .now) _ _ (z .pre .1 .0) (d .deinterleave .ensures)),
-      omega (arith, n .0, z .pre .1 .2),
+      (s, rw (z .pre .0 .1) (parity-rows-long (z .args .kind) (z .args .rate) _ _ (z .pre .0 .0) e f (z .args .decided .now) _ _ (z .pre .1 .0) (d .deinterleave .ensures)), omega (arith, n .0, z .pre .1 .2)),
       rw (z .pre .0 .1) (parity-rows-binary (z .args .kind) (z .args .rate) _ _ (z .pre .0 .0) e f (z .args .decided .now) _ _ (z .pre .1 .0) (d .deinterleave .ensures) (decided-binary _ _ _ (z .pre .0 .1) (z .pre .0 .2))),
     )
 

@@ -30,7 +30,7 @@ abbrev μ-loop : tie.MeasureT-loop
 loop-holds : tie.Need-loop-holds Inv-loop μ-loop
 loop-holds c =
     let out = c .args .out .now in
-    (search needs, search needs, written-same (c .args .from) scramblerByte 0 out (omega (arith, c .pre .0)) (c .pre .1 .0), refl)
+    (search needs, search needs, written-same (c .args .from) scramblerByte 0 out (omega (arith, c .pre .from-le, c .pre .room)) (c .pre .first), refl)
 
 sub-out : tie.Need-sub-out Inv-loop μ-loop
 sub-out c = search needs
@@ -57,7 +57,7 @@ loop-again : tie.Need-loop-again Inv-loop μ-loop
 loop-again c =
     let l = c .before .before .before .loop in
     let z = c .before .before .before .before in
-    let value = stored (z .args .far) (z .args .near) _ _ _ (z .pre .0 .0) (z .pre .0 .1) (omega arith) (z .pre .1 .1) (l .inv .2) in
+    let value = stored (z .args .far) (z .args .near) _ _ _ (z .pre .some) (z .pre .near-le) (omega (arith, z .pre .far-le)) (z .pre .follows) (l .inv .2) in
     (search needs, search needs, written-next _ _ _ _ _ (l .inv .2) (omega arith) value, simp length-set (l .inv .3))
 
 same-length : tie.Need-same-length Inv-loop μ-loop

@@ -24,7 +24,7 @@ step-bytes-requires-2 c κs = search needs
 follow-bytes-requires : tie.Need-follow-bytes-requires
 follow-bytes-requires c κs =
     let e = c .before .before .before .before .step-bytes2 .ensures in
-    (search needs, (bytes-held 10 _ _ e, byte-follows-ten))
+    record { some = omega arith; near-le = omega arith; far-le = omega arith; from-le = search needs; room = search needs; first = bytes-held 10 _ _ e; follows = byte-follows-ten }
 
 same-length-2 : tie.Need-same-length-2
 same-length-2 c = search needs
@@ -40,12 +40,12 @@ returns-2 c =
 follow-bytes-requires-2 : tie.Need-follow-bytes-requires-2
 follow-bytes-requires-2 c κs =
     let e = c .before .before .before .before .step-bytes2 .ensures in
-    (search needs, (bytes-held 10 _ _ e, byte-follows-ten))
+    record { some = omega arith; near-le = omega arith; far-le = omega arith; from-le = search needs; room = search needs; first = bytes-held 10 _ _ e; follows = byte-follows-ten }
 
 follow-bytes-requires-3 : tie.Need-follow-bytes-requires-3
 follow-bytes-requires-3 c κs =
     let e = c .before .before .before .follow-bytes2 .ensures in
-    (search needs, (bytes-held 80 _ _ e, byte-follows-eighty))
+    record { some = omega arith; near-le = omega arith; far-le = omega arith; from-le = search needs; room = search needs; first = bytes-held 80 _ _ e; follows = byte-follows-eighty }
 
 same-length-3 : tie.Need-same-length-3
 same-length-3 c = search needs

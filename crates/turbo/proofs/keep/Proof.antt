@@ -26,11 +26,11 @@ next-kept-requires c κs = search needs
 
 add-next-kept : tie.Need-add-next-kept Inv-loop μ-loop
 add-next-kept c =
-    let z = c .before .before .before in omega (arith, c .next-kept .ensures, places-lt (z .args .rate) (z .pre .1) .0)
+    let z = c .before .before .before in omega (arith, c .next-kept .ensures, places-lt (z .args .rate) (z .pre .rate-is) .0)
 
 next-kept-requires-2 : tie.Need-next-kept-requires-2 Inv-loop μ-loop
 next-kept-requires-2 c κs =
-    let z = c .before .before .before in (omega (arith, z .pre .1), omega (arith, c .next-kept .ensures, places-lt (z .args .rate) (z .pre .1) .0))
+    let z = c .before .before .before in (omega (arith, z .pre .rate-is), omega (arith, c .next-kept .ensures, places-lt (z .args .rate) (z .pre .rate-is) .0))
 
 kept-count-requires : tie.Need-kept-count-requires Inv-loop μ-loop
 kept-count-requires c κs = search needs
@@ -46,27 +46,27 @@ entry c = c .before .before .before .before .before .before .before
 in-block : (c : tie.In-loop Inv-loop μ-loop) → 32 * c .before .loop .i + 32 ≤ pairCount (entry c .args .kind)
 in-block c =
     let z = entry c in
-    rows-in-block (z .args .kind) (z .args .rate) (c .before .loop .i) (z .pre .0) (z .pre .1) (omega (arith, c .loop-test .taken, c .before .before .kept-count .ensures))
+    rows-in-block (z .args .kind) (z .args .rate) (c .before .loop .i) (z .pre .defined) (z .pre .rate-is) (omega (arith, c .loop-test .taken, c .before .before .kept-count .ensures))
 
 places : (c : tie.In-loop Inv-loop μ-loop) → (c .before .before .before .before .next-kept .result < 16) × (c .before .before .before .next-kept2 .result < 16)
 places c =
     let z = entry c in
     let a = c .before .before .before .before .next-kept .ensures in
     let b = c .before .before .before .next-kept2 .ensures in
-    let l = places-lt (z .args .rate) (z .pre .1) in
+    let l = places-lt (z .args .rate) (z .pre .rate-is) in
     (omega (arith, a, l .0), omega (arith, b ∙ ap (λ (n : ℕ). keptFrom (z .args .rate) (n + 1)) a, l .1))
 
 mul-two-rows : tie.Need-mul-two-rows Inv-loop μ-loop
-mul-two-rows c = omega (arith, in-block c, entry c .pre .2, entry c .pre .3, few-pairs (entry c .args .kind) (entry c .pre .0))
+mul-two-rows c = omega (arith, in-block c, entry c .pre .whole, entry c .pre .short, few-pairs (entry c .args .kind) (entry c .pre .defined))
 
 two-rows-requires : tie.Need-two-rows-requires Inv-loop μ-loop
 two-rows-requires c κs =
     let z = entry c in
     let (first, second) = places c in
-    (omega (arith, in-block c, z .pre .2), z .pre .3, first, second)
+    (omega (arith, in-block c, z .pre .whole), z .pre .short, first, second)
 
 slice-write-out : tie.Need-slice-write-out Inv-loop μ-loop
-slice-write-out c = omega (arith, c .before .loop-test .taken, c .before .before .loop .inv .2, entry (c .before) .pre .4, c .before .before .before .kept-count .ensures)
+slice-write-out c = omega (arith, c .before .loop-test .taken, c .before .before .loop .inv .2, entry (c .before) .pre .room, c .before .before .before .kept-count .ensures)
 
 add-i : tie.Need-add-i Inv-loop μ-loop
 add-i c = search needs
@@ -80,8 +80,8 @@ loop-again c =
     let z = entry i in
     let l = i .before .loop in (
       omega (arith, i .loop-test .taken),
-      written-next _ _ _ _ _ (l .inv .1) (omega (arith, i .loop-test .taken, z .pre .4, i .before .before .kept-count .ensures))
-          (c .two-rows .ensures ∙ rows-byte (z .args .kind) (z .args .rate) _ (l .i) _ _ (z .pre .1) (i .before .before .before .before .next-kept .ensures) (i .before .before .before .next-kept2 .ensures) (in-block i)),
+      written-next _ _ _ _ _ (l .inv .1) (omega (arith, i .loop-test .taken, z .pre .room, i .before .before .kept-count .ensures))
+          (c .two-rows .ensures ∙ rows-byte (z .args .kind) (z .args .rate) _ (l .i) _ _ (z .pre .rate-is) (i .before .before .before .before .next-kept .ensures) (i .before .before .before .next-kept2 .ensures) (in-block i)),
       simp length-set (l .inv .2),
     )
 

@@ -53,7 +53,13 @@ keep-requires c κs =
     let p = c .before .before .before .parity-bytes2 .ensures in
     let n : blockBytes (z .args .kind) ≤ 520 = omega (arith, few-pairs (z .args .kind) (z .pre .1 .defined)) in
     let l = ap length p ∙ length-written (blockBytes (z .args .kind)) _ _ (rw (length-replicate {A = ℕ} 520 0) n) ∙ length-replicate {A = ℕ} 520 0 in
-    (z .pre .1 .defined, not-all (z .args .rate) (z .pre .0) (sym (o .before .keeps-all .ensures) ∙ o .if1 .left), omega (arith, l, n), omega (arith, l), z .pre .2)
+    record {
+      defined = z .pre .1 .defined;
+      rate-is = not-all (z .args .rate) (z .pre .0) (sym (o .before .keeps-all .ensures) ∙ o .if1 .left);
+      whole = omega (arith, l, n);
+      short = omega (arith, l);
+      room = z .pre .2;
+    }
 
 same-length-2 : tie.Need-same-length-2
 same-length-2 c = search needs

@@ -8,7 +8,7 @@ use Rattle.bits.specs.Lists.{lowest}
 use Rattle.card.specs.Modes.{blockBytes}
 use Rattle.constituent.specs.Pairs.{pairCount, pairAt}
 use Rattle.pair_interleaver.specs.Interleave.{interleaved}
-use Rattle.turbo.specs.Puncture.{kept, keptTime}
+use Rattle.turbo.specs.Puncture.{kept, keptTime, keptCount}
 
 -- the first place of the pattern that is kept, from a place on, or 16
 unfoldable pub keptFrom : ℕ → ℕ → ℕ
@@ -28,3 +28,11 @@ pub record Inputs (kind : ℕ) (bytes second : List ℕ) : Type 0 where
   pub whole : length bytes ≡ blockBytes kind
   pub room : blockBytes kind ≤ length second
   pub held : (t : ℕ) → t < pairCount kind → pairAt (bitOf second) t ≡ interleaved kind (pairAt (bitOf bytes)) t
+
+-- what keeping two times of every sixteen asks: all parity bits of a block, and room for the kept
+pub record Puncturing (kind rate : ℕ) (packed out : List ℕ) : Type 0 where
+  pub defined : kind < 5
+  pub rate-is : rate ≡ 1
+  pub whole : blockBytes kind ≤ length packed
+  pub short : length packed < 65536
+  pub room : keptCount kind rate / 8 ≤ length out
