@@ -10,15 +10,15 @@ ghost use Prim.Native.Nat.{_≤_};
 ghost use lib.ListN.{length};
 ghost use Rattle.refusal.specs.Report.{answer};
 ghost use Rattle.text.specs.Text.{appended};
-ghost use Rattle.card.specs.Entries.{readCard};
+ghost use Rattle.card.specs.Gate.{gate};
 ghost use Rattle.job.specs.Jobs.{ofFrame, send as sendOutcome, read as readOutcome, refusalLines};
 
-// Whether a card goes to frame control. One that is refused does, since every entry refuses it alike.
+// Whether a card goes to frame control: every one that payload does not serve, since one that is no card is refused alike by both.
 fn is_of_frame(card: &[u8]) -> bool
-    ensures { λ r. ⌜ r ≡ ofFrame (readCard (now (card .entry))) ⌝ }
+    ensures { λ r. ⌜ r ≡ ofFrame (gate 1 4 (now (card .entry))) ⌝ }
 {
-    match card::read_card(card) {
-        CardRead::Good(c) => c.kind == 0,
+    match card::served_card(card, 1, 4) {
+        CardRead::Good(_) => false,
         CardRead::Refused(_) => true,
     }
 }

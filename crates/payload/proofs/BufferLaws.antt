@@ -25,7 +25,7 @@ use Rattle.payload_layout.specs.declared.Layout.{Layout}
 use Rattle.payload_layout.specs.Layouts.{items}
 use Rattle.payload_layout.specs.Items.{carries, sentOn}
 use Rattle.payload_layout.proofs.ItemLaws.{sent-ext}
-use Rattle.payload.specs.Modes.{LaidBlock}
+use Rattle.payload.specs.Loops.Blocks.{LaidBlock}
 use Rattle.payload.specs.Entries.{sentItem, decidedBit, blockMade, decidedBlock}
 use Rattle.payload.proofs.EntryLaws.{block-done}
 

@@ -1,12 +1,11 @@
 -- Clean return and the law of the majority over the entries' outcome definitions. Assumes nothing.
 use mathlib.Core.Path.{_≡_, sym, ap, _∙_}
-use mathlib.Core.Bool.{true}
 use mathlib.Core.List.{List, _++_}
 use Prim.Native.Nat.{ℕ, _+_, _*_, _≤_, _<_}
 use native.Mathlib.Omega.{arith}
-use lib.Dec.{eqb, ltb}
+use lib.Dec.{ltb}
 use lib.ListN.{length, getD, take, drop}
-use borrow.Author.Tests.{le-ltb, eq-eqb, ne-eqb}
+use borrow.Author.Tests.{le-ltb}
 use Rattle.bits.specs.Bits.{bitOf, bytesOf}
 use Rattle.bits.specs.Lists.{tabulate, written, firstAbove}
 use Rattle.bits.proofs.BitLaws.{Binary, same-bits, bytes-bits}
@@ -16,8 +15,9 @@ use Rattle.refusal.specs.Report.{done, refused}
 use Rattle.refusal.specs.Outcome.{Outcome}
 use Rattle.refusal.proofs.OutcomeLaws.{outcome-good}
 use Rattle.card.specs.Card.{cardOf}
-use Rattle.card.specs.Modes.{blockBytes, defined}
-use Rattle.card.specs.Entries.{versioned}
+use Rattle.card.specs.Modes.{blockBytes}
+use Rattle.card.specs.Gate.{Served}
+use Rattle.card.proofs.GateLaws.{gate-served}
 use Rattle.scrambler.specs.Scrambler.{scrambled}
 use Rattle.scrambler.proofs.ScramblerLaws.{scrambled-at, scrambled-twice, block-binary}
 use Rattle.interleaver.specs.Source.{codedBits}
@@ -31,27 +31,21 @@ use Rattle.votes.specs.Damage.{Damage}
 use Rattle.payload_layout.specs.Layouts.{items, Laid}
 use Rattle.payload_layout.specs.Items.{carries, sentOn}
 use Rattle.payload_layout.proofs.ItemLaws.{sent-binary, decided-clean, decided-damaged}
-use Rattle.payload.specs.Modes.{Served}
-use Rattle.payload.specs.Entries.{payloadCard, layoutOfCard, sentItem, send, decidedBit, blockMade, decidedBlock, read}
+use Rattle.payload.specs.Entries.{layoutOfCard, sentItem, send, decidedBit, blockMade, decidedBlock, read}
 use Rattle.payload.specs.Words.{GoodCard, Block, made}
-use Rattle.payload.proofs.ModeLaws.{mode-served, layout-bits, layout-served}
+use Rattle.payload.proofs.ModeLaws.{layout-bits, layout-served}
 use Rattle.payload.proofs.EntryLaws.{send-passed, send-done, read-passed, read-decided, block-refused}
 
 -- the coded bits of a block under a card
 abbrev pub blockBits : List ℕ → List ℕ → ℕ → ℕ
 blockBits card block = codedBit (cardOf card .kind) (cardOf card .rate) (cardOf card .taps) (scrambled (bitOf block))
 
--- a card of eleven bytes with a version and a mode that are defined, and a kind that is not frame control, is good
-pub good-card : (card : List ℕ) → length card ≡ 11 → versioned (cardOf card) ≡ true → defined (cardOf card) ≡ true → (cardOf card .kind ≡ 0 → ⊥) → GoodCard card
-unfolding payloadCard
-good-card card long version mode kind = rw (eq-eqb (length card) 11 long, version, mode, ne-eqb (cardOf card .kind) 0 kind)
-
 module _ (card : List ℕ) (good : GoodCard card) where
-  served : Served (cardOf card .band) (cardOf card .kind) (cardOf card .rate) (cardOf card .modulation)
-  served = mode-served card (cardOf card) good
+  served : Served 1 4 (cardOf card)
+  served = gate-served 1 4 card (cardOf card) good
 
   laid : Laid (layoutOfCard card)
-  laid = layout-served (cardOf card .band) (cardOf card .kind) (cardOf card .rate) (cardOf card .modulation) served
+  laid = layout-served (cardOf card) served
 
   -- no item of a damage is above 2
   legal-none : (N : ℕ) (received : List ℕ) → Damage N received → firstAbove 2 received ≡ length received
@@ -62,7 +56,7 @@ module _ (card : List ℕ) (good : GoodCard card) where
       → read card received back ≡ decidedBlock (cardOf card .kind) (cardOf card .rate) (cardOf card .taps) (decidedBit (layoutOfCard card) received) back
   read-good received back damage room =
       read-passed card received back (cardOf card) good
-      ∙ read-decided (layoutOfCard card) (cardOf card .kind) (cardOf card .rate) (cardOf card .taps) received back (laid .within) (damage .long) room
+      ∙ read-decided (cardOf card) received back (laid .within) (damage .long) room
       (omega (arith, legal-none (items (layoutOfCard card)) received damage))
 
   -- Refusal 8: where each coded bit is decided and parity disagrees, the count is the number of kept parity bits that disagree.
@@ -79,7 +73,7 @@ module _ (card : List ℕ) (good : GoodCard card) where
       let e = decidedBit (layoutOfCard card) received in
       let all : firstUndecided kind rate e ≡ codedBits kind rate = lowest-none (codedBits kind rate) (λ i. ltb 1 (e i)) (λ i h. le-ltb 1 (e i) (each i h)) in
       read-good received back damage room
-      ∙ block-refused kind rate taps (served .defined) e back back (Parity (disagreeing kind rate taps e))
+      ∙ block-refused kind rate taps (served .kinds) e back back (Parity (disagreeing kind rate taps e))
       (ap (λ (o : Outcome ℕ (List ℕ)). o .report) (refused-parity kind rate taps e back (omega (arith, all)) some))
 
   module _ (block : List ℕ) (is : Block (cardOf card .kind) block) where
@@ -92,7 +86,7 @@ module _ (card : List ℕ) (good : GoodCard card) where
         }
     send-good out room =
         send-passed card block out (cardOf card) good
-        ∙ send-done (layoutOfCard card) (cardOf card .kind) (cardOf card .rate) (cardOf card .taps) block out (laid .within) (is .long) room
+        ∙ send-done (cardOf card) block out (laid .within) (is .long) room
 
     -- what was made, whatever lies beyond
     pub made-is : (out : List ℕ) → items (layoutOfCard card) ≤ length out
@@ -106,7 +100,7 @@ module _ (card : List ℕ) (good : GoodCard card) where
     scrambled-binary = block-binary block (dataBits (cardOf card .kind))
 
     bits-binary : (b : ℕ) → blockBits card block b < 2
-    bits-binary = coded-binary (cardOf card .kind) (cardOf card .rate) (served .defined) (cardOf card .taps) (scrambled (bitOf block)) scrambled-binary
+    bits-binary = coded-binary (cardOf card .kind) (cardOf card .rate) (served .kinds) (cardOf card .taps) (scrambled (bitOf block)) scrambled-binary
 
     items-binary : (n : ℕ) → sentOn (layoutOfCard card) (blockBits card block) n < 2
     items-binary = sent-binary (layoutOfCard card) (blockBits card block) bits-binary
@@ -129,9 +123,9 @@ module _ (card : List ℕ) (good : GoodCard card) where
         let e = decidedBit (layoutOfCard card) received in
         read-good received back damage room
         ∙ outcome-good {A = ℕ} (recoverRows kind rate (cardOf card .taps) e) back (blockBytes kind) (blockMade kind rate e back)
-        (clean-rows kind rate (served .defined) (cardOf card .taps) (scrambled (bitOf block)) scrambled-binary e same)
+        (clean-rows kind rate (served .kinds) (cardOf card .taps) (scrambled (bitOf block)) scrambled-binary e same)
         ∙ ap (λ (l : List ℕ). record { report = done (blockBytes kind); out = l ++ drop (blockBytes kind) back })
-        (descrambled (dataBit kind rate e) (clean-data kind rate (served .defined) (cardOf card .taps) (scrambled (bitOf block)) scrambled-binary e same))
+        (descrambled (dataBit kind rate e) (clean-data kind rate (served .kinds) (cardOf card .taps) (scrambled (bitOf block)) scrambled-binary e same))
 
     -- Clean return: what was sent, read with the same card, answers 0 and gives the block.
     pub clean : (out back : List ℕ) → items (layoutOfCard card) ≤ length out → blockBytes (cardOf card .kind) ≤ length back
@@ -151,7 +145,7 @@ module _ (card : List ℕ) (good : GoodCard card) where
         as-sent : (b : ℕ) → b < codedBits (cardOf card .kind) (cardOf card .rate) → decidedBit (layoutOfCard card) sent b ≡ blockBits card block b
         as-sent b h =
             decided-clean (layoutOfCard card) (blockBits card block) sent b (bits-binary b) laid
-            (rw (layout-bits (cardOf card .band) (cardOf card .kind) (cardOf card .rate) (cardOf card .modulation)) h) at-item
+            (rw (layout-bits (cardOf card)) h) at-item
 
     -- The law of the majority: legal items of which each coded bit has twice its wrong copies and its lost copies below its copies give
     -- the block back exact.

@@ -1,5 +1,5 @@
 -- What sending and reading a payload block answer and leave in lent memory, for all inputs, by the rows of paper 01's table.
--- Assumes nothing.
+-- They serve kinds 1 to 4. Assumes nothing.
 use mathlib.Core.Bool.{not}
 use mathlib.Core.List.{List, [], _∷_, _++_}
 use Prim.Native.Nat.{ℕ}
@@ -7,13 +7,12 @@ use lib.Dec.{eqb, ltb}
 use lib.ListN.{length, drop}
 use Rattle.bits.specs.Bits.{bitOf, bytesOf}
 use Rattle.bits.specs.Lists.{written, firstAbove}
-use Rattle.refusal.specs.declared.Refusal.the-variants.{Mode, Pad, Length, Room, Item}
-use Rattle.refusal.specs.Report.{Report}
-use Rattle.refusal.specs.Outcome.{Row, row, reported, Outcome, outcome}
+use Rattle.refusal.specs.declared.Refusal.the-variants.{Pad, Length, Room, Item}
+use Rattle.refusal.specs.Outcome.{Row, row, Outcome, outcome}
 use Rattle.card.specs.declared.Card.{Card}
 use Rattle.card.specs.Card.{cardOf}
 use Rattle.card.specs.Modes.{blockBytes}
-use Rattle.card.specs.Entries.{cardRows}
+use Rattle.card.specs.Gate.{gateRows}
 use Rattle.scrambler.specs.Scrambler.{scrambled}
 use Rattle.interleaver.specs.Source.{codedBits}
 use Rattle.fec.specs.Coding.{codedBit}
@@ -23,25 +22,14 @@ use Rattle.payload_layout.specs.declared.Layout.{Layout}
 use Rattle.payload_layout.specs.Layouts.{layoutOf, items}
 use Rattle.payload_layout.specs.Items.{carries, sentOn}
 
--- ---- the card
-
--- the rows about the card: those of every entry, and 3 for frame control
-abbrev pub payloadRows : List ℕ → List Row
-payloadRows card = cardRows card ++ (row (eqb (cardOf card .kind) 0) Mode ∷ [])
-
--- what these rows report: the card, or its refusal
-unfoldable pub payloadCard : List ℕ → Report Card
-payloadCard card = reported (payloadRows card) (cardOf card)
-
 -- ---- the layout
 
--- the layout of a block's coded bits, by band, kind, rate and modulation
-abbrev pub blockLayout : ℕ → ℕ → ℕ → ℕ → Layout
-blockLayout band kind rate modulation = layoutOf band modulation (codedBits kind rate)
+-- the layout of a block's coded bits under a card, and under the card in some bytes
+abbrev pub blockLayout : Card → Layout
+blockLayout c = layoutOf (c .band) (c .modulation) (codedBits (c .kind) (c .rate))
 
--- the same for the card in some bytes
 abbrev pub layoutOfCard : List ℕ → Layout
-layoutOfCard card = blockLayout (cardOf card .band) (cardOf card .kind) (cardOf card .rate) (cardOf card .modulation)
+layoutOfCard card = blockLayout (cardOf card)
 
 -- 9 for a pad that is longer than the coded data
 abbrev pub padRow : Layout → Row
@@ -54,23 +42,25 @@ unfoldable pub sentItem : Layout → ℕ → ℕ → ℕ → List ℕ → ℕ �
 sentItem L kind rate taps block n = sentOn L (codedBit kind rate taps (scrambled (bitOf block))) n
 
 -- the rows behind the card's
-abbrev pub sendRows : Layout → ℕ → List ℕ → List ℕ → List Row
-sendRows L kind block out =
-    padRow L
-    ∷ row (not (eqb (length block) (blockBytes kind))) (Length (length block))
-    ∷ row (ltb (length out) (items L)) (Room (items L))
+abbrev pub sendRows : Card → List ℕ → List ℕ → List Row
+sendRows c block out =
+    padRow (blockLayout c)
+    ∷ row (not (eqb (length block) (blockBytes (c .kind)))) (Length (length block))
+    ∷ row (ltb (length out) (items (blockLayout c))) (Room (items (blockLayout c)))
     ∷ []
 
+-- the items of a block under a card, at the start of the lent memory
+abbrev pub itemsMade : Card → List ℕ → List ℕ → List ℕ
+itemsMade c block out = written (items (blockLayout c)) (sentItem (blockLayout c) (c .kind) (c .rate) (c .taps) block) out
+
 -- what sending comes to behind the card's rows
-unfoldable pub sendBy : Layout → ℕ → ℕ → ℕ → List ℕ → List ℕ → Outcome ℕ (List ℕ)
-sendBy L kind rate taps block out =
-    outcome (sendRows L kind block out) out (items L) (written (items L) (sentItem L kind rate taps block) out)
+unfoldable pub sendBy : Card → List ℕ → List ℕ → Outcome ℕ (List ℕ)
+sendBy c block out = outcome (sendRows c block out) out (items (blockLayout c)) (itemsMade c block out)
 
 -- sending a block
 unfoldable pub send : List ℕ → List ℕ → List ℕ → Outcome ℕ (List ℕ)
 send card block out =
-    outcome (payloadRows card ++ sendRows (layoutOfCard card) (cardOf card .kind) block out) out (items (layoutOfCard card))
-    (written (items (layoutOfCard card)) (sentItem (layoutOfCard card) (cardOf card .kind) (cardOf card .rate) (cardOf card .taps) block) out)
+    outcome (gateRows 1 4 card ++ sendRows (cardOf card) block out) out (items (layoutOfCard card)) (itemsMade (cardOf card) block out)
 
 -- ---- reading
 
@@ -83,28 +73,28 @@ unfoldable pub blockMade : ℕ → ℕ → (ℕ → ℕ) → List ℕ → List �
 blockMade kind rate e out = bytesOf (blockBytes kind) (scrambled (dataBit kind rate e)) ++ drop (blockBytes kind) out
 
 -- the rows behind the card's and before the decisions
-abbrev pub itemRows : Layout → ℕ → List ℕ → List ℕ → List Row
-itemRows L kind received out =
-    padRow L
-    ∷ row (not (eqb (length received) (items L))) (Length (length received))
-    ∷ row (ltb (length out) (blockBytes kind)) (Room (blockBytes kind))
+abbrev pub itemRows : Card → List ℕ → List ℕ → List Row
+itemRows c received out =
+    padRow (blockLayout c)
+    ∷ row (not (eqb (length received) (items (blockLayout c)))) (Length (length received))
+    ∷ row (ltb (length out) (blockBytes (c .kind))) (Room (blockBytes (c .kind)))
     ∷ row (ltb (firstAbove 2 received) (length received)) (Item (firstAbove 2 received))
     ∷ []
 
 -- all rows behind the card's
-abbrev pub readRows : Layout → ℕ → ℕ → ℕ → List ℕ → List ℕ → List Row
-readRows L kind rate taps received out = itemRows L kind received out ++ recoverRows kind rate taps (decidedBit L received)
+abbrev pub readRows : Card → List ℕ → List ℕ → List Row
+readRows c received out = itemRows c received out ++ recoverRows (c .kind) (c .rate) (c .taps) (decidedBit (blockLayout c) received)
 
 -- what reading comes to behind the decisions, and behind the card's rows
 unfoldable pub decidedBlock : ℕ → ℕ → ℕ → (ℕ → ℕ) → List ℕ → Outcome ℕ (List ℕ)
 decidedBlock kind rate taps e out = outcome (recoverRows kind rate taps e) out (blockBytes kind) (blockMade kind rate e out)
 
-unfoldable pub readBy : Layout → ℕ → ℕ → ℕ → List ℕ → List ℕ → Outcome ℕ (List ℕ)
-readBy L kind rate taps received out =
-    outcome (readRows L kind rate taps received out) out (blockBytes kind) (blockMade kind rate (decidedBit L received) out)
+unfoldable pub readBy : Card → List ℕ → List ℕ → Outcome ℕ (List ℕ)
+readBy c received out =
+    outcome (readRows c received out) out (blockBytes (c .kind)) (blockMade (c .kind) (c .rate) (decidedBit (blockLayout c) received) out)
 
 -- reading the items of a block
 unfoldable pub read : List ℕ → List ℕ → List ℕ → Outcome ℕ (List ℕ)
 read card received out =
-    outcome (payloadRows card ++ readRows (layoutOfCard card) (cardOf card .kind) (cardOf card .rate) (cardOf card .taps) received out) out
-    (blockBytes (cardOf card .kind)) (blockMade (cardOf card .kind) (cardOf card .rate) (decidedBit (layoutOfCard card) received) out)
+    outcome (gateRows 1 4 card ++ readRows (cardOf card) received out) out (blockBytes (cardOf card .kind))
+    (blockMade (cardOf card .kind) (cardOf card .rate) (decidedBit (layoutOfCard card) received) out)

@@ -6,12 +6,13 @@ use lib.ListN.{length, getD, take}
 use Rattle.refusal.specs.Report.{done}
 use Rattle.card.specs.Card.{cardOf}
 use Rattle.card.specs.Modes.{blockBytes}
+use Rattle.card.specs.Gate.{gate}
 use Rattle.payload_layout.specs.Layouts.{items}
-use Rattle.payload.specs.Entries.{payloadCard, layoutOfCard, send}
+use Rattle.payload.specs.Entries.{layoutOfCard, send}
 
 -- a good card: no cause about cards refuses it at the payload entries
 abbrev pub GoodCard : List ℕ → Type 0
-GoodCard card = payloadCard card ≡ done (cardOf card)
+GoodCard card = gate 1 4 card ≡ done (cardOf card)
 
 -- a rightly sized block of a kind: as many bytes as the kind has
 pub record Block (kind : ℕ) (block : List ℕ) : Type 0 where

@@ -1,6 +1,7 @@
 // One payload block of 72, 136, 264 or 520 bytes: from its bytes to items on carriers, and from received items back to its bytes.
 //
 // Public entries: `send` and `read`. Nothing else is `pub`.
+use card::Card;
 use card::CardRead;
 use payload_layout::Layout;
 use refusal::Answer;
@@ -10,34 +11,19 @@ ghost use Prim.Native.Nat.{_≤_};
 ghost use lib.ListN.{length};
 ghost use Rattle.bits.specs.Lists.{written};
 ghost use Rattle.refusal.specs.Report.{answer};
-ghost use Rattle.card.specs.Entries.{cardRead};
 ghost use Rattle.card.specs.Modes.{blockBytes};
+ghost use Rattle.card.specs.Gate.{Served};
 ghost use Rattle.payload_layout.specs.Layouts.{items as itemsOf};
-ghost use Rattle.payload.specs.Modes.{Served, LaidBlock};
-ghost use Rattle.payload.specs.Entries.{payloadCard, blockLayout, sentItem, sendBy, send as sendOutcome, decidedBit, decidedBlock, readBy, read as readOutcome};
-
-// The card in some bytes, or refusal 1, 2 or 3. Frame control is not served here.
-fn payload_card(card: &[u8]) -> CardRead
-    ensures { λ r. ⌜ cardRead r ≡ payloadCard (now (card .entry)) ⌝ }
-{
-    match card::read_card(card) {
-        CardRead::Refused(r) => CardRead::Refused(r),
-        CardRead::Good(c) => {
-            if c.kind == 0 {
-                return CardRead::Refused(Refusal::Mode);
-            }
-            CardRead::Good(c)
-        }
-    }
-}
+ghost use Rattle.payload.specs.Loops.Blocks.{LaidBlock};
+ghost use Rattle.payload.specs.Entries.{blockLayout, sentItem, sendBy, send as sendOutcome, decidedBit, decidedBlock, readBy, read as readOutcome};
 
 // The layout of a block's coded bits.
-fn block_layout(band: usize, kind: usize, rate: usize, modulation: usize) -> Layout
-    requires { ⌜ Served band kind rate modulation ⌝ }
-    ensures { λ l. ⌜ l ≡ blockLayout band kind rate modulation ⌝ }
+fn block_layout(c: Card) -> Layout
+    requires { ⌜ Served 1 4 c ⌝ }
+    ensures { λ l. ⌜ l ≡ blockLayout c ⌝ }
 {
-    let coded = interleaver::coded_bits(kind, rate);
-    payload_layout::layout_of(band, modulation, coded)
+    let coded = interleaver::coded_bits(c.kind as usize, c.rate as usize);
+    payload_layout::layout_of(c.band as usize, c.modulation as usize, coded)
 }
 
 // ---- sending
@@ -57,24 +43,16 @@ fn send_items(l: Layout, kind: usize, rate: usize, taps: u16, block: &[u8], out:
 }
 
 // Sending behind the card's checks: refusal 9, 4 or 5, or the items.
-fn send_by(
-    band: usize,
-    kind: usize,
-    rate: usize,
-    modulation: usize,
-    taps: u16,
-    block: &[u8],
-    out: &mut [u8],
-) -> Answer
-    requires { ⌜ Served band kind rate modulation ⌝ }
-    ensures answer { λ r. ⌜ answer r ≡ sendBy (blockLayout band kind rate modulation) kind rate taps (now (block .entry)) (now (out .entry)) .report ⌝ }
-    ensures items { λ _. ⌜ now (out .exit) ≡ sendBy (blockLayout band kind rate modulation) kind rate taps (now (block .entry)) (now (out .entry)) .out ⌝ }
+fn send_by(c: Card, block: &[u8], out: &mut [u8]) -> Answer
+    requires { ⌜ Served 1 4 c ⌝ }
+    ensures answer { λ r. ⌜ answer r ≡ sendBy c (now (block .entry)) (now (out .entry)) .report ⌝ }
+    ensures items { λ _. ⌜ now (out .exit) ≡ sendBy c (now (block .entry)) (now (out .entry)) .out ⌝ }
 {
-    let l = block_layout(band, kind, rate, modulation);
+    let l = block_layout(c);
     if l.coded < l.pad {
         return Answer::Refused(Refusal::Pad(l.pad));
     }
-    let size = card::block_bytes(kind);
+    let size = card::block_bytes(c.kind as usize);
     let needed = payload_layout::item_count(l);
     if block.len() != size {
         return Answer::Refused(Refusal::Length(block.len()));
@@ -82,7 +60,7 @@ fn send_by(
     if out.len() < needed {
         return Answer::Refused(Refusal::Room(needed));
     }
-    send_items(l, kind, rate, taps, block, out);
+    send_items(l, c.kind as usize, c.rate as usize, c.taps as u16, block, out);
     Answer::Done(needed)
 }
 
@@ -91,17 +69,9 @@ pub fn send(card: &[u8], block: &[u8], out: &mut [u8]) -> Answer
     ensures answer { λ r. ⌜ answer r ≡ sendOutcome (now (card .entry)) (now (block .entry)) (now (out .entry)) .report ⌝ }
     ensures items { λ _. ⌜ now (out .exit) ≡ sendOutcome (now (card .entry)) (now (block .entry)) (now (out .entry)) .out ⌝ }
 {
-    match payload_card(card) {
+    match card::served_card(card, 1, 4) {
         CardRead::Refused(r) => Answer::Refused(r),
-        CardRead::Good(c) => send_by(
-            c.band as usize,
-            c.kind as usize,
-            c.rate as usize,
-            c.modulation as usize,
-            c.taps as u16,
-            block,
-            out,
-        ),
+        CardRead::Good(c) => send_by(c, block, out),
     }
 }
 
@@ -134,27 +104,19 @@ fn read_items(
 }
 
 // Reading behind the card's checks: refusal 9, 4, 5, 6, 7 or 8, or the block.
-fn read_by(
-    band: usize,
-    kind: usize,
-    rate: usize,
-    modulation: usize,
-    taps: u16,
-    items: &[u8],
-    out: &mut [u8],
-) -> Answer
-    requires { ⌜ Served band kind rate modulation ⌝ }
-    ensures answer { λ r. ⌜ answer r ≡ readBy (blockLayout band kind rate modulation) kind rate taps (now (items .entry)) (now (out .entry)) .report ⌝ }
-    ensures bytes { λ _. ⌜ now (out .exit) ≡ readBy (blockLayout band kind rate modulation) kind rate taps (now (items .entry)) (now (out .entry)) .out ⌝ }
+fn read_by(c: Card, items: &[u8], out: &mut [u8]) -> Answer
+    requires { ⌜ Served 1 4 c ⌝ }
+    ensures answer { λ r. ⌜ answer r ≡ readBy c (now (items .entry)) (now (out .entry)) .report ⌝ }
+    ensures bytes { λ _. ⌜ now (out .exit) ≡ readBy c (now (items .entry)) (now (out .entry)) .out ⌝ }
 {
-    let l = block_layout(band, kind, rate, modulation);
+    let l = block_layout(c);
     if l.coded < l.pad {
         return Answer::Refused(Refusal::Pad(l.pad));
     }
     if items.len() != payload_layout::item_count(l) {
         return Answer::Refused(Refusal::Length(items.len()));
     }
-    let size = card::block_bytes(kind);
+    let size = card::block_bytes(c.kind as usize);
     if out.len() < size {
         return Answer::Refused(Refusal::Room(size));
     }
@@ -162,7 +124,7 @@ fn read_by(
     if illegal < items.len() {
         return Answer::Refused(Refusal::Item(illegal));
     }
-    read_items(l, kind, rate, taps, items, out)
+    read_items(l, c.kind as usize, c.rate as usize, c.taps as u16, items, out)
 }
 
 // The block of received items at the start of `out`, or any refusal of the table.
@@ -170,16 +132,8 @@ pub fn read(card: &[u8], items: &[u8], out: &mut [u8]) -> Answer
     ensures answer { λ r. ⌜ answer r ≡ readOutcome (now (card .entry)) (now (items .entry)) (now (out .entry)) .report ⌝ }
     ensures bytes { λ _. ⌜ now (out .exit) ≡ readOutcome (now (card .entry)) (now (items .entry)) (now (out .entry)) .out ⌝ }
 {
-    match payload_card(card) {
+    match card::served_card(card, 1, 4) {
         CardRead::Refused(r) => Answer::Refused(r),
-        CardRead::Good(c) => read_by(
-            c.band as usize,
-            c.kind as usize,
-            c.rate as usize,
-            c.modulation as usize,
-            c.taps as u16,
-            items,
-            out,
-        ),
+        CardRead::Good(c) => read_by(c, items, out),
     }
 }

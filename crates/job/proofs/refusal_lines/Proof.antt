@@ -1,14 +1,11 @@
 -- `job::refusal_lines` meets its contract: two lines, one behind the other. Assumes nothing.
-use mathlib.Core.Path.{_≡_, sym, ap, _∙_}
+use mathlib.Core.Path.{ap}
 use mathlib.Core.List.{List}
 use Prim.Native.Nat.{ℕ}
 use native.Mathlib.Omega.{arith}
 use denote.Ref.{now}
-use lib.ListN.{length, getD}
-use Rattle.refusal.specs.Report.{refusal, number, values}
-use Rattle.text.specs.Text.{ascii, decimal, line}
-use Rattle.text.proofs.TextLaws.{length-line, length-decimal, places-le, appended-more}
-use Rattle.job.specs.Jobs.{refusalLines}
+use lib.ListN.{getD}
+use Rattle.text.specs.Text.{ascii}
 use Rattle.job.proofs.JobLaws.{number-short, two-lines}
 use borrow.Author.Needs.{needs}
 use Rattle.job.proofs.refusal_lines.Statement.{statement}

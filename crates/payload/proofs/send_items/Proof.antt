@@ -1,7 +1,6 @@
 -- `payload::send_items` meets its contract: the block is scrambled, its coded bits follow, and each item is a copy of one. Assumes nothing.
 use mathlib.Core.Path.{sym, _∙_}
 use native.Mathlib.Omega.{arith}
-use lib.ListN.{length}
 use Rattle.fec.proofs.CodingLaws.{few-bytes}
 use Rattle.payload.proofs.BufferLaws.{scrambled-length, scrambled-room, scrambled-bits, part-length, part-room, coded-fits, coded-written, items-written}
 use borrow.Author.Needs.{needs}
