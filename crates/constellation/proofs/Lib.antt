@@ -1,8 +1,8 @@
 -- What the proofs of `constellation` share, and its theorems. Assumes nothing.
-pub mod DecisionLaws
-pub mod MappingLaws
-pub mod FactorLaws
-pub mod NearestLevel
-pub mod PaperWords
+mod DecisionLaws
+mod MappingLaws
+mod FactorLaws
+mod NearestLevel
+mod PaperWords
 pub mod RoundTrip
-pub mod EntryLaws
+mod EntryLaws

@@ -79,14 +79,15 @@ axis2Of modulation x = item2 (reading2 modulation x)
 unfoldable pub axis4Of : Float → Pair
 axis4Of x = pair4 (reading4 x)
 
-abbrev pub joined : Pair → Pair → List ℕ
-joined x y = x .first ∷ x .second ∷ y .first ∷ y .second ∷ []
+-- the four items of two axes
+abbrev pub fourItems : Pair → Pair → List ℕ
+fourItems x y = x .first ∷ x .second ∷ y .first ∷ y .second ∷ []
 
 -- the items of a received carrier; BPSK looks at I alone
 abbrev pub itemsOf : ℕ → Received → List ℕ
 itemsOf modulation Lost = replicate (carrierBits modulation) 2
 itemsOf modulation (Heard i q) =
-    byModulation modulation (axis2Of modulation i ∷ []) (axis2Of modulation i ∷ axis2Of modulation q ∷ []) (joined (axis4Of i) (axis4Of q))
+    byModulation modulation (axis2Of modulation i ∷ []) (axis2Of modulation i ∷ axis2Of modulation q ∷ []) (fourItems (axis4Of i) (axis4Of q))
 
 -- the report of each case of `Sliced`, with the items as a list
 abbrev pub sliced : Sliced → Report (List ℕ)

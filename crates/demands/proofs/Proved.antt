@@ -22,15 +22,16 @@ use Rattle.card.specs.Modes.{blockBytes, carrierBits}
 use Rattle.card.specs.Entries.{fieldRows, readFields, writeRows, writeCard}
 use Rattle.card.specs.Gate.{gateRows}
 use Rattle.card.specs.Text.{textRows, textCard}
+use Rattle.card.proofs.GateLaws.{gate-served}
 use Rattle.card.proofs.RoundTrip.{write-after-read, read-after-write}
 use Rattle.constellation.specs.Entries.{mapRows, mapOutcome, sliceRows, sliceOutcome}
 use Rattle.diversity.proofs.BandLaws.{band-range, fewest-of}
 use Rattle.payload_layout.specs.Items.{sentOn}
 use Rattle.payload_layout.proofs.ItemLaws.{sent-carries}
 use Rattle.payload_layout.specs.Layouts.{symbolBits, layoutFor, layoutOf, items}
-use Rattle.payload.specs.Entries.{payloadRows, layoutOfCard, sendRows, send as payloadSend, readRows as payloadReadRows, read as payloadRead}
+use Rattle.payload.specs.Entries.{layoutOfCard, sendRows, send as payloadSend, readRows as payloadReadRows, read as payloadRead}
 use Rattle.payload.specs.Words.{made as payloadMade}
-use Rattle.payload.proofs.ModeLaws.{mode-served, layout-items}
+use Rattle.payload.proofs.ModeLaws.{layout-items}
 use Rattle.payload.proofs.ReturnLaws.{blockBits, send-good as payload-sent, made-is as payload-made-is, clean as payload-clean, survives as payload-back, made-length as payload-length, made-binary as payload-binary}
 use Rattle.demands.specs.Demands.{Keeps, Outgoing, PayloadOutgoing, CardWritten, CardReadAgain, CleanReturn, PayloadCleanReturn, PayloadSurvives, Lanes, Fewest, Survives, BestPossible, Lengths}
 
@@ -47,8 +48,8 @@ keeps =
       slice = λ modulation received out. kept {A = ℕ} (sliceRows modulation out) out _ _;
       frame-send = λ card word out. kept {A = ℕ} (gateRows 0 0 card ++ wordRows (carriersOf card) (offsetsOf card) word out) out _ _;
       frame-read = λ card items out. kept {A = ℕ} (gateRows 0 0 card ++ readRows (carriersOf card) (offsetsOf card) (tapsOf card) items out) out _ _;
-      payload-send = λ card block out. kept {A = ℕ} (payloadRows card ++ sendRows (layoutOfCard card) (cardOf card .kind) block out) out _ _;
-      payload-read = λ card items out. kept {A = ℕ} (payloadRows card ++ payloadReadRows (layoutOfCard card) (cardOf card .kind) (cardOf card .rate) (cardOf card .taps) items out) out _ _;
+      payload-send = λ card block out. kept {A = ℕ} (gateRows 1 4 card ++ sendRows (cardOf card) block out) out _ _;
+      payload-read = λ card items out. kept {A = ℕ} (gateRows 1 4 card ++ payloadReadRows (cardOf card) items out) out _ _;
     }
 
 -- ---- Demand 2
@@ -119,7 +120,7 @@ payload-clean-return card block good is out back room space = (payload-clean car
     through =
         let long = payload-length card good block is out room in
         ap (λ (n : ℕ). tabulate n (throughPoints (cardOf card .modulation) (λ n. getD (payloadMade card block out) n 0))) (sym long)
-        ∙ list-back (cardOf card .modulation) (payloadMade card block out) _ (mode-served card (cardOf card) good .modulation-lt) (long ∙ whole-carriers card)
+        ∙ list-back (cardOf card .modulation) (payloadMade card block out) _ (gate-served 1 4 card (cardOf card) good .modulation-lt) (long ∙ whole-carriers card)
         (λ k h. payload-binary card good block is out room k (omega arith))
 
 pub payload-survives : PayloadSurvives
@@ -132,7 +133,7 @@ lengths = (
   refl,
   λ card good.
       let c = cardOf card in
-      let served = mode-served card c good in
-      let bytes = under 5 521 blockBytes tt (c .kind) (served .defined .kind-lt) in
-      (layout-items (c .band) (c .kind) (c .rate) (c .modulation) served, omega arith),
+      let served = gate-served 1 4 card c good in
+      let bytes = under 5 521 blockBytes tt (c .kind) (served .kinds .kind-lt) in
+      (layout-items c served, omega arith),
 )

@@ -1,2 +1,2 @@
 -- The laws of what `job` defines. Assumes nothing.
-pub mod JobLaws
+mod JobLaws

@@ -1,5 +1,5 @@
 -- The laws of what `payload` defines. Assumes nothing.
 pub mod ModeLaws
-pub mod EntryLaws
-pub mod BufferLaws
+mod EntryLaws
+mod BufferLaws
 pub mod ReturnLaws

@@ -60,7 +60,14 @@ fn send_by(c: Card, block: &[u8], out: &mut [u8]) -> Answer
     if out.len() < needed {
         return Answer::Refused(Refusal::Room(needed));
     }
-    send_items(l, c.kind as usize, c.rate as usize, c.taps as u16, block, out);
+    send_items(
+        l,
+        c.kind as usize,
+        c.rate as usize,
+        c.taps as u16,
+        block,
+        out,
+    );
     Answer::Done(needed)
 }
 
@@ -124,7 +131,14 @@ fn read_by(c: Card, items: &[u8], out: &mut [u8]) -> Answer
     if illegal < items.len() {
         return Answer::Refused(Refusal::Item(illegal));
     }
-    read_items(l, c.kind as usize, c.rate as usize, c.taps as u16, items, out)
+    read_items(
+        l,
+        c.kind as usize,
+        c.rate as usize,
+        c.taps as u16,
+        items,
+        out,
+    )
 }
 
 // The block of received items at the start of `out`, or any refusal of the table.

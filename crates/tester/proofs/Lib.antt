@@ -1,2 +1,2 @@
 -- What the proofs of `tester` share, and its theorems. Assumes nothing.
-pub mod CallLaws
+mod CallLaws
