@@ -7,9 +7,9 @@ use lib.Dec.{ltb}
 use lib.ListN.{length, getD, take, drop}
 use borrow.Author.Tests.{le-ltb}
 use Rattle.bits.specs.Bits.{bitOf, bytesOf}
-use Rattle.bits.specs.Lists.{tabulate, written, firstAbove}
+use Rattle.bits.specs.Lists.{tabulate, written}
 use Rattle.bits.proofs.BitLaws.{Binary, same-bits, bytes-bits}
-use Rattle.bits.proofs.ListLaws.{length-tabulate, getD-tabulate, first-none, lowest-none}
+use Rattle.bits.proofs.ListLaws.{length-tabulate, getD-tabulate, lowest-none}
 use Rattle.refusal.specs.declared.Refusal.the-variants.{Parity}
 use Rattle.refusal.specs.Report.{done, refused}
 use Rattle.refusal.specs.Outcome.{Outcome}
@@ -28,6 +28,7 @@ use Rattle.fec.proofs.CodingLaws.{coded-binary}
 use Rattle.fec.proofs.RecoveryLaws.{clean-data, clean-rows, refused-parity}
 use Rattle.votes.specs.Votes.{copies, wrongCopies, lostCopies}
 use Rattle.votes.specs.Damage.{Damage}
+use Rattle.votes.proofs.DamageLaws.{none-above}
 use Rattle.payload_layout.specs.Layouts.{items, Laid}
 use Rattle.payload_layout.specs.Items.{carries, sentOn}
 use Rattle.payload_layout.proofs.ItemLaws.{sent-binary, decided-clean, decided-damaged}
@@ -47,17 +48,13 @@ module _ (card : List ℕ) (good : GoodCard card) where
   laid : Laid (layoutOfCard card)
   laid = layout-served (cardOf card) served
 
-  -- no item of a damage is above 2
-  legal-none : (N : ℕ) (received : List ℕ) → Damage N received → firstAbove 2 received ≡ length received
-  legal-none N received damage = sym (first-none 2 received (λ k h. omega (arith, damage .legal k (omega (arith, damage .long)))))
-
   -- reading legal items of the right number under a good card comes to the decided bits
   pub read-good : (received back : List ℕ) → Damage (items (layoutOfCard card)) received → blockBytes (cardOf card .kind) ≤ length back
       → read card received back ≡ decidedBlock (cardOf card .kind) (cardOf card .rate) (cardOf card .taps) (decidedBit (layoutOfCard card) received) back
   read-good received back damage room =
       read-passed card received back (cardOf card) good
       ∙ read-decided (cardOf card) received back (laid .within) (damage .long) room
-      (omega (arith, legal-none (items (layoutOfCard card)) received damage))
+      (omega (arith, none-above (items (layoutOfCard card)) received damage))
 
   -- Refusal 8: where each coded bit is decided and parity disagrees, the count is the number of kept parity bits that disagree.
   pub parity-counted : (received back : List ℕ) → Damage (items (layoutOfCard card)) received → blockBytes (cardOf card .kind) ≤ length back
