@@ -11,7 +11,7 @@ while IFS= read -r cite; do
     *'#'*)
       file=crates/${cite%%#*}
       name=${cite#*#}
-      if ! [ -f "$file" ] || ! grep -qE "^ *((pub|extern|\"C\"|fn|abbrev|unfoldable|record|data) +)*$name *[:({]" "$file"; then
+      if ! [ -f "$file" ] || ! grep -qE "^ *((pub|extern|\"C\"|fn|abbrev|unfoldable|record|data|struct|enum|const) +)*$name *[:({]" "$file"; then
         printf 'not defined there: %s\n' "$cite"
         bad=1
       fi
