@@ -4,8 +4,7 @@ use Prim.Native.Nat.{ℕ, _+_, _-_, _*_, _≤_, _<_}
 use native.Mathlib.Nat.{div-add-mod', lt-div-mul-add}
 use native.Mathlib.Omega.{arith}
 use lib.Dec.{leb, leb→le}
-use Rattle.bits.specs.Ranges.{allBelow}
-use Rattle.bits.proofs.RangeLaws.{at-each, under₂}
+use Rattle.bits.proofs.RangeLaws.{at-each₂, under₂}
 use Rattle.card.specs.Modes.{carrierBits}
 use Rattle.bands.specs.Bands.{bandCount, carriers}
 use Rattle.payload_layout.specs.Layouts.{symbolBits, symbolCount, padBits, layoutFor, layoutOf, items, Laid}
@@ -43,9 +42,7 @@ module _ (band modulation : ℕ) (band-lt : band < bandCount) (modulation-lt : m
   unfolding symbolBits carriers
   some-bits =
       leb→le 1 (symbolBits (carriers band) (carrierBits modulation))
-      (at-each 3 (λ m. leb 1 (symbolBits (carriers band) (carrierBits m)))
-      (at-each bandCount (λ b. allBelow 3 (λ m. leb 1 (symbolBits (carriers b) (carrierBits m)))) tt band band-lt)
-      modulation modulation-lt)
+      (at-each₂ bandCount 3 (λ b m. leb 1 (symbolBits (carriers b) (carrierBits m))) tt band modulation band-lt modulation-lt)
 
   pub few-bits : symbolBits (carriers band) (carrierBits modulation) < 2048
   unfolding symbolBits carriers

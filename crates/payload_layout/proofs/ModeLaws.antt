@@ -6,9 +6,9 @@ use Prim.Native.Nat.{ℕ, _≤_, _<_}
 use lib.Dec.{T, leb, leb→le}
 use lib.ListN.{getD}
 use Rattle.bits.specs.Ranges.{allBelow}
-use Rattle.bits.proofs.RangeLaws.{at-each}
+use Rattle.bits.proofs.RangeLaws.{at-each, at-each₂}
 use Rattle.bands.specs.Bands.{bandCount, carriers}
-use Rattle.payload_layout.specs.Layouts.{symbolBits, symbolCount, padBits, layoutFor, layoutOf, items, mostCoded, mostItems}
+use Rattle.payload_layout.specs.Layouts.{symbolBits, symbolCount, padBits, layoutFor, layoutOf, items, mostItems}
 
 -- the coded bits of a payload: kinds 1 to 4 at rate 1/2, and kind 4 at 16/18; row kind - 1 + rate is that of kind and rate
 abbrev pub codedCount : ℕ → ℕ
@@ -32,16 +32,12 @@ all-few : T (everyMode few)
 unfolding everyMode few items layoutOf layoutFor padBits symbolCount symbolBits carriers
 all-few = tt
 
-pub mode-coded : (row : ℕ) → row < 5 → codedCount row ≤ mostCoded
-mode-coded row h = leb→le (codedCount row) mostCoded (at-each 5 (λ row. leb (codedCount row) mostCoded) tt row h)
-
 module _ (row band modulation : ℕ) (row-lt : row < 5) (band-lt : band < bandCount) (modulation-lt : modulation < 3) where
   at-mode : (test : ℕ → ℕ → ℕ → Bool) → T (everyMode test) → T (test row band modulation)
   unfolding everyMode
   at-mode test all =
-      at-each 3 (test row band)
-      (at-each bandCount (λ band. allBelow 3 (test row band)) (at-each 5 (λ row. allBelow bandCount (λ band. allBelow 3 (test row band))) all row row-lt)
-      band band-lt) modulation modulation-lt
+      at-each₂ bandCount 3 (test row) (at-each 5 (λ row. allBelow bandCount (λ band. allBelow 3 (test row band))) all row row-lt)
+      band modulation band-lt modulation-lt
 
   pub mode-pad : layoutOf band modulation (codedCount row) .pad ≤ codedCount row
   unfolding within

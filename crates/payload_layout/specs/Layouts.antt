@@ -30,11 +30,7 @@ layoutOf band modulation coded = layoutFor (carriers band) (carrierBits modulati
 unfoldable pub items : Layout → ℕ
 items L = L .symbols * symbolBits (L .carriers) (L .bits)
 
--- the most coded bits that a payload has: those of 520 bytes at rate 1/2
-abbrev pub mostCoded : ℕ
-mostCoded = 8320
-
--- the most items that a payload has: the same as 16QAM on band 0
+-- the most items that a payload has: those of 520 bytes at rate 1/2 as 16QAM on band 0
 abbrev pub mostItems : ℕ
 mostItems = 9864
 

@@ -1,5 +1,5 @@
 -- `payload_layout::decide` meets its contract: the two runs are all items. Assumes nothing.
-use mathlib.Core.Path.{_≡_, sym}
+use mathlib.Core.Path.{sym}
 use native.Mathlib.Omega.{arith}
 use Rattle.payload_layout.proofs.DecisionLaws.{data-length, decided-written}
 use borrow.Author.Needs.{needs}

@@ -1,7 +1,6 @@
 -- `payload_layout::lay_out` meets its contract: the two runs are all items. Assumes nothing.
 use mathlib.Core.Path.{sym}
 use native.Mathlib.Omega.{arith}
-use lib.ListN.{length-append, length-drop}
 use Rattle.payload_layout.proofs.RunLaws.{pad-length, laid-out}
 use borrow.Author.Needs.{needs}
 use Rattle.payload_layout.proofs.lay_out.Statement.{statement}
