@@ -8,14 +8,13 @@ use Rattle.card.specs.Modes.{blockBytes, Defined}
 use Rattle.card.specs.Gate.{Served}
 use Rattle.interleaver.specs.Source.{codedBits}
 use Rattle.interleaver.proofs.InterleaverLaws.{coded-half, coded-high, coded-le}
-use Rattle.payload_layout.specs.Layouts.{layoutOf, layoutFor, items, mostItems, Laid}
-use Rattle.payload_layout.proofs.LayoutLaws.{layout-laid}
+use Rattle.payload_layout.specs.Layouts.{items, mostItems, Laid}
+use Rattle.payload_layout.proofs.LayoutLaws.{layout-coded, layout-laid}
 use Rattle.payload_layout.proofs.ModeLaws.{codedCount, mode-pad, mode-items}
 use Rattle.payload.specs.Entries.{blockLayout}
 
 pub layout-bits : (c : Card) → blockLayout c .coded ≡ codedBits (c .kind) (c .rate)
-unfolding layoutOf layoutFor
-layout-bits c = refl
+layout-bits c = layout-coded (c .band) (c .modulation) (codedBits (c .kind) (c .rate))
 
 -- the coded bits by the row of a kind and rate
 row-bits : (kind rate : ℕ) → 0 < kind → Defined kind rate → codedBits kind rate ≡ codedCount (kind - 1 + rate)
