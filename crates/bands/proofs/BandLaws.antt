@@ -28,7 +28,7 @@ pub carriers-below : (band : ℕ) → band < bandCount → carriers band < 513
 carriers-below band h = omega (arith, carriers-between band h, last-below band h)
 
 -- a band has an offset for each of its symbols
-pub offset-count : (band : ℕ) → band < bandCount → length (offsets band) ≡ symbols band
+offset-count : (band : ℕ) → band < bandCount → length (offsets band) ≡ symbols band
 unfolding offsets
 offset-count band h = agree bandCount (λ band. length (offsets band)) symbols tt band h
 

@@ -1,6 +1,6 @@
 -- The bands (paper 01, Carriers; 000, 5.1.4.4), by number. Assumes nothing.
 use mathlib.Core.List.{List, [], _∷_}
-use Prim.Native.Nat.{ℕ, _+_, _-_, _*_}
+use Prim.Native.Nat.{ℕ, _+_, _-_}
 use lib.ListN.{getD, take}
 
 -- bands 0 and 1 are defined

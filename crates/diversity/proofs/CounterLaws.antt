@@ -1,4 +1,4 @@
--- Laws of the counters: items more, the votes of a bit on the cycle's places, and the majority that the counters of a bit tell.
+-- Laws of the counters: items more, the votes of a bit on lanes of the cycle, and the majority that the counters of a bit tell.
 -- Assumes nothing.
 use mathlib.Core.Path.{_≡_, refl, sym, ap, ap₂, _∙_}
 use mathlib.Core.Bool.{Bool, true, false, cond, _&&_}
@@ -26,13 +26,13 @@ use Rattle.diversity.proofs.CycleLaws.{cycle-I, cycle-Q, cycle-below, l
 
 -- ---- items more
 
-module _ (n : ℕ) (place : ℕ → ℕ) (items before : List ℕ) where
-  pub adds-none : Adds n 0 place items before before
+module _ (n : ℕ) (onto : ℕ → ℕ) (items before : List ℕ) where
+  pub adds-none : Adds n 0 onto items before before
   adds-none lane start same e = rw (add-zero n) e
 
   -- m items, and k after them
-  pub adds-more : (m k : ℕ) (run : ℕ → ℕ) (now later : List ℕ) → Adds n m place items before now → Adds (n + m) k run items now later
-      → ((j : ℕ) → j < k → run j ≡ place (m + j)) → Adds n (m + k) place items before later
+  pub adds-more : (m k : ℕ) (run : ℕ → ℕ) (now later : List ℕ) → Adds n m onto items before now → Adds (n + m) k run items now later
+      → ((j : ℕ) → j < k → run j ≡ onto (m + j)) → Adds n (m + k) onto items before later
   adds-more m k run now later first second alike lane start same e =
       rw (← add-assoc n m k)
       (second lane start
@@ -40,7 +40,7 @@ module _ (n : ℕ) (place : ℕ → ℕ) (items before : List ℕ) where
       (first lane start (λ j l. same j (omega arith)) e))
 
   -- a loop's end
-  pub adds-all : (m k : ℕ) (now : List ℕ) → Adds n m place items before now → m ≡ k → Adds n k place items before now
+  pub adds-all : (m k : ℕ) (now : List ℕ) → Adds n m onto items before now → m ≡ k → Adds n k onto items before now
   adds-all m k now h e = rw (← e) h
 
 votes-next : (lane : ℕ → ℕ) (items : List ℕ) (n q v : ℕ)
@@ -57,7 +57,7 @@ counter-at n lane items start now h q l = rw h (getD-tabulate 512 _ q 0 l)
 after-more : (s p q a b x v : ℕ) → x ≡ (s + p + 255 * q) % 256 → v ≡ (x + a + 255 * b) % 256 → v ≡ (s + (p + a) + 255 * (q + b)) % 256
 after-more s p q a b x v e f = omega arith
 
--- one item, at the place that it carries
+-- one item, at the lane of the cycle that it goes onto
 pub adds-item : (n at v : ℕ) (items now : List ℕ) → at < 512 → v ≡ afterItem (getD now at 0) (getD items n 0)
     → Adds n 1 (λ j. at) items now (set now at v)
 unfolding counted
@@ -97,9 +97,9 @@ middle-counted lane items start e =
     tabulate-of 512 _ 0 start (ap length e ∙ length-replicate 512 middle)
     (λ q l. rw (middle-at start e q l, votes-none lane items q 0, votes-none lane items q 1))
 
--- ---- the places of a bit
+-- ---- the two lanes of a bit
 
--- the place at which lane Q carries bit b, as lane I does at 2 * b
+-- the lane of the cycle that carries bit b and is a lane Q, as 2 * b is a lane I
 abbrev far : ℕ → ℕ
 far b = 2 * ((b + 128) % 256) + 1
 
@@ -113,7 +113,7 @@ far-of p b h l e = omega arith
 far-back : (p b : ℕ) → b < 256 → p ≡ (b + 128) % 256 → (p + 128) % 256 ≡ b
 far-back p b l e = omega arith
 
--- an item that carries place x, where it holds the value or not, is one of lane I or of lane Q
+-- an item on lane x of the cycle, where it holds the value or not, is one of lane I or of lane Q
 one-lane : (t : Bool) (x b : ℕ) → x < 512 → b < 256
     → _≡_ {A = ℕ} (cond (eqb (cycleBit x) b && t) 1 0) (cond (eqb x (2 * b) && t) 1 0 + cond (eqb x (far b) && t) 1 0)
 one-lane t x b h l =
@@ -169,17 +169,17 @@ module _ (C : ℕ) (os items : List ℕ) where
   abbrev all : ℕ
   all = itemCount C os
 
-  -- the votes of all items for a place, and for a bit
-  abbrev placeVotes : ℕ → ℕ → ℕ
-  placeVotes q v = votes all (carries (cycleLane C os)) items q v
+  -- the votes of all items for a lane of the cycle, and for a bit
+  abbrev laneVotes : ℕ → ℕ → ℕ
+  laneVotes q v = votes all (carries (cycleLane C os)) items q v
 
   abbrev bitVotes : ℕ → ℕ → ℕ
   bitVotes b v = votes all (carries (laneBit C os)) items b v
 
-  -- those for a bit are those for its two places
-  votes-places : (b v : ℕ) → b < 256 → bitVotes b v ≡ placeVotes (2 * b) v + placeVotes (far b) v
+  -- those for a bit are those for its two lanes
+  votes-lanes : (b v : ℕ) → b < 256 → bitVotes b v ≡ laneVotes (2 * b) v + laneVotes (far b) v
   unfolding votes carries count
-  votes-places b v h =
+  votes-lanes b v h =
       sum-ext all _ _ (λ n l. rw (lane-is C os n) (one-lane (eqb (getD items n 0) v) (cycleLane C os n) b (cycle-below C os n) h))
       ∙ sum-add all (λ n. cond (eqb (cycleLane C os n) (2 * b) && eqb (getD items n 0) v) 1 0)
       (λ n. cond (eqb (cycleLane C os n) (far b) && eqb (getD items n 0) v) 1 0)
@@ -208,17 +208,17 @@ module _ (C : ℕ) (os items : List ℕ) where
       counted-now =
           rw (zero-add all) at (adds (cycleLane C os) start (λ j k. ap (cycleLane C os) (zero-add j)) (middle-counted (cycleLane C os) items start even))
 
-      at-place : (q : ℕ) → q < 512 → getD now q 0 ≡ (128 + placeVotes q 1 + 255 * placeVotes q 0) % 256
-      at-place q l = rw (← middle-at start even q l) (counter-at all (cycleLane C os) items start now counted-now q l)
+      at-lane : (q : ℕ) → q < 512 → getD now q 0 ≡ (128 + laneVotes q 1 + 255 * laneVotes q 0) % 256
+      at-lane q l = rw (← middle-at start even q l) (counter-at all (cycleLane C os) items start now counted-now q l)
 
       bit : (b : ℕ) → b < 256 → majority 256 (getD now (2 * b) 0 + getD now (far b) 0) ≡ majority (bitVotes b 0) (bitVotes b 1)
       bit b l =
-          let zeros = votes-places b 0 l in
-          let ones = votes-places b 1 l in
+          let zeros = votes-lanes b 0 l in
+          let ones = votes-lanes b 1 l in
           majority-from 256 (bitVotes b 0) (bitVotes b 1) _
           (rw (zeros, ones)
           (two-counters _ _ _ _ _ _ (omega (arith, ones, few-votes b 1 small l)) (omega (arith, zeros, few-votes b 0 small l))
-          (at-place (2 * b) (omega arith)) (at-place (far b) (omega arith))))
+          (at-lane (2 * b) (omega arith)) (at-lane (far b) (omega arith))))
 
 -- ---- pairs
 

@@ -11,7 +11,7 @@ use Rattle.bits.proofs.ListLaws.{getD-tabulate, tabulate-of, written-two, writt
 use Rattle.diversity.specs.Lanes.{laneBit}
 use Rattle.diversity.specs.Loops.Cycle.{cycleBit, cycleLane}
 
--- ---- the bits of its places
+-- ---- the bits on its lanes
 
 -- the two lanes of place p
 pub cycle-I : (p : ℕ) → cycleBit (2 * p) ≡ p % 256
@@ -64,9 +64,9 @@ cycle-filled coded cycle first part long one two =
 
 -- ---- runs
 
--- the places from place c on, where lane I carries `bit`, up to the wrap
-pub run-place : (o c bit j m : ℕ) → bit ≡ (c + o) % 256 → bit + m ≤ 256 → j < 2 * m → 2 * bit + j ≡ (2 * o + (2 * c + j)) % 512
-run-place o c bit j m e h l = omega arith
+-- the lanes from place c on, where lane I carries `bit`, up to the wrap
+pub run-lane : (o c bit j m : ℕ) → bit ≡ (c + o) % 256 → bit + m ≤ 256 → j < 2 * m → 2 * bit + j ≡ (2 * o + (2 * c + j)) % 512
+run-lane o c bit j m e h l = omega arith
 
 -- a part of a list put at the start of a buffer
 pub part-put : (xs out : List ℕ) (at end from n : ℕ) → at ≡ from → end ≡ at + n → end ≤ length xs
@@ -91,7 +91,7 @@ pub cycle-below : (C : ℕ) (os : List ℕ) (n : ℕ) → cycleLane C os n < 512
 unfolding cycleLane
 cycle-below C os n = omega arith
 
--- an item carries the bit of the place that it carries
+-- an item carries the bit of its lane of the cycle
 pub lane-is : (C : ℕ) (os : List ℕ) (n : ℕ) → laneBit C os n ≡ cycleBit (cycleLane C os n)
 unfolding laneBit cycleBit cycleLane
 lane-is C os n = halves (n / 2 % C + getD os (n / 2 / C) 0) (n % 2) (omega arith)

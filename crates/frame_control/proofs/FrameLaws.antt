@@ -45,13 +45,13 @@ module _ (C : ℕ) (os : List ℕ) (taps : ℕ) (word : List ℕ) (is : Word wor
   abbrev coded : ℕ → ℕ
   coded = codedBit 0 0 taps (bitOf word)
 
-  abbrev copies : List ℕ
-  copies = tabulate (itemCount C os) (sentItem C os taps word)
+  abbrev sentItems : List ℕ
+  sentItems = tabulate (itemCount C os) (sentItem C os taps word)
 
   binary : (b : ℕ) → coded b < 2
   binary b = coded-binary 0 0 (defined-half 0 (omega arith)) taps (bitOf word) (λ j h. bit-binary word j) b
 
-  copy-at : (n : ℕ) → n < itemCount C os → getD copies n 0 < 2
+  copy-at : (n : ℕ) → n < itemCount C os → getD sentItems n 0 < 2
   unfolding sentItem
   copy-at n h = rw (getD-tabulate (itemCount C os) (sentItem C os taps word) n 0 h) (binary (laneBit C os n))
 
@@ -81,7 +81,7 @@ module _ (C : ℕ) (os : List ℕ) (taps : ℕ) (word : List ℕ) (is : Word wor
 
   -- below the fewest copies the word comes back exact
   pub back-below : (items back : List ℕ) → Damage (itemCount C os) items → 16 ≤ length back
-      → 2 * altered (carrierCount C os) copies items + lost (carrierCount C os) copies items < fewestCopies C os
+      → 2 * altered (carrierCount C os) sentItems items + lost (carrierCount C os) sentItems items < fewestCopies C os
       → readBy C os taps items back ≡ record { report = done 16; out = word ++ drop 16 back }
   unfolding sentItem
   back-below items back damage space h = word-back items back damage space (below-limit C os coded binary items damage h)
@@ -89,7 +89,7 @@ module _ (C : ℕ) (os : List ℕ) (taps : ℕ) (word : List ℕ) (is : Word wor
   -- some damage of exactly the fewest is refused with 7
   pub refused-at : (back : List ℕ) → 16 ≤ length back
       → (items : List ℕ) × Damage (itemCount C os) items
-      × (2 * altered (carrierCount C os) copies items + lost (carrierCount C os) copies items ≡ fewestCopies C os)
+      × (2 * altered (carrierCount C os) sentItems items + lost (carrierCount C os) sentItems items ≡ fewestCopies C os)
       × (number (readBy C os taps items back .report) ≡ 7)
   unfolding sentItem itemCount
   refused-at back space =
@@ -101,10 +101,10 @@ module _ (C : ℕ) (os : List ℕ) (taps : ℕ) (word : List ℕ) (is : Word wor
 
   -- undamaged it comes back where every bit has a copy
   pub back-clean : 0 < fewestCopies C os → (back : List ℕ) → 16 ≤ length back
-      → readBy C os taps copies back ≡ record { report = done 16; out = word ++ drop 16 back }
+      → readBy C os taps sentItems back ≡ record { report = done 16; out = word ++ drop 16 back }
   unfolding sentItem
   back-clean some back space =
-      word-back copies back (record { long = length-tabulate (itemCount C os) _; legal = λ n h. omega (arith, copy-at n h) }) space (no-damage C os coded binary some)
+      word-back sentItems back (record { long = length-tabulate (itemCount C os) _; legal = λ n h. omega (arith, copy-at n h) }) space (no-damage C os coded binary some)
 
 -- ---- a good card
 
@@ -125,7 +125,7 @@ module _ (card word : List ℕ) (good : GoodCard card) (is : Word word) where
   unfolding written
   made-is out room =
       ap (λ o. take (itemCountOf card) (o .out)) (send-good out room)
-      ∙ take-at (copies (carriersOf card) (offsetsOf card) (tapsOf card) word is) (drop (itemCountOf card) out) (itemCountOf card) (length-tabulate (itemCountOf card) _)
+      ∙ take-at (sentItems (carriersOf card) (offsetsOf card) (tapsOf card) word is) (drop (itemCountOf card) out) (itemCountOf card) (length-tabulate (itemCountOf card) _)
 
   -- Demand 3, first half: below the fewest copies the word comes back exact.
   pub comes-back : (out items back : List ℕ) → itemCountOf card ≤ length out → Damage (itemCountOf card) items → 16 ≤ length back
@@ -153,7 +153,7 @@ module _ (card word : List ℕ) (good : GoodCard card) (is : Word word) where
       let band = good-band card good in
       let some : 0 < fewestCopies (carriersOf card) (offsetsOf card) = omega (arith, fewest-of (cardOf card .band) band, some-copies (cardOf card .band) band) in
       rw (made-is out room)
-      (read-passed card (copies (carriersOf card) (offsetsOf card) (tapsOf card) word is) back (cardOf card) good
+      (read-passed card (sentItems (carriersOf card) (offsetsOf card) (tapsOf card) word is) back (cardOf card) good
       ∙ back-clean (carriersOf card) (offsetsOf card) (tapsOf card) word is some back space)
 
   -- what was made is so many bits

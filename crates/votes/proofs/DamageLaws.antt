@@ -14,7 +14,7 @@ use Rattle.bits.proofs.ListLaws.{length-tabulate, getD-tabulate, tabulate-ext, 
 use Rattle.bits.proofs.SumLaws.{sum-ext, sum-pairs, sum-within, one-le, count-none}
 use Rattle.votes.specs.Votes.{carries, wrongItem, lostItem, copies, wrongCopies, lostCopies, decided}
 use Rattle.votes.specs.Damage.{Damage, alteredCarrier, lostCarrier, altered, lost}
-use Rattle.votes.proofs.VoteLaws.{right-item, bit-item, decided-as-sent, undamaged, all-lost}
+use Rattle.votes.proofs.VoteLaws.{right-item, bit-item, decided-as-sent, all-lost}
 
 -- the two items of a carrier never carry the same bit
 abbrev pub Apart : ℕ → (ℕ → ℕ → Bool) → Type 0
@@ -75,7 +75,7 @@ module _ (K : ℕ) (on : ℕ → ℕ → Bool) (apart : Apart K on) where
 -- ---- best possible
 
 -- the items sent, with those that pass a test marked lost and nothing else changed
-unfoldable pub erased : ℕ → (ℕ → Bool) → List ℕ → List ℕ
+unfoldable erased : ℕ → (ℕ → Bool) → List ℕ → List ℕ
 erased N test sent = tabulate N (λ n. cond (test n) 2 (getD sent n 0))
 
 -- a damage that loses m carriers of K, alters none, and leaves bit b without a strict majority
@@ -107,24 +107,18 @@ one-of-two false true d = refl
 one-of-two false false d = refl
 
 module _ (N : ℕ) (test : ℕ → Bool) (sent : List ℕ) where
-  pub erased-at : (n : ℕ) → n < N → getD (erased N test sent) n 0 ≡ cond (test n) 2 (getD sent n 0)
+  erased-at : (n : ℕ) → n < N → getD (erased N test sent) n 0 ≡ cond (test n) 2 (getD sent n 0)
   unfolding erased
   erased-at n h = getD-tabulate N _ n 0 h
 
   item-right : (n : ℕ) → n < N → wrongItem (getD sent n 0) (getD (erased N test sent) n 0) ≡ false
   item-right n h = rw (erased-at n h) (never-wrong (test n) (getD sent n 0))
 
-  -- a bit none of whose items is marked is still decided as sent
-  pub erased-others : (on : ℕ → ℕ → Bool) (c v : ℕ) → v < 2 → ((n : ℕ) → n < N → T (on n c) → (test n ≡ false) × (getD sent n 0 ≡ v))
-      → 0 < copies N on c → decided N on (erased N test sent) c ≡ v
-  erased-others on c v bit kept some =
-      undamaged N on (erased N test sent) c v bit (λ n h t. rw (erased-at n h, kept n h t .0) (kept n h t .1)) some
-
   module _ (bits : (n : ℕ) → n < N → getD sent n 0 < 2) where
     item-lost : (n : ℕ) → n < N → lostItem (getD (erased N test sent) n 0) ≡ test n
     item-lost n h = rw (erased-at n h) (lost-where (test n) (getD sent n 0) (bits n h))
 
-    pub erased-damage : Damage N (erased N test sent)
+    erased-damage : Damage N (erased N test sent)
     unfolding erased
     erased-damage =
         record {
@@ -176,7 +170,7 @@ pub carries-bit : (lane : ℕ → ℕ) (n b : ℕ) → T (carries lane n b) → 
 unfolding carries
 carries-bit lane n b t = eqb→eq (lane n) b t
 
-pub carries-apart : (K : ℕ) (lane : ℕ → ℕ) → ((k : ℕ) → k < K → lane (2 * k) ≡ lane (2 * k + 1) → ⊥) → Apart K (carries lane)
+carries-apart : (K : ℕ) (lane : ℕ → ℕ) → ((k : ℕ) → k < K → lane (2 * k) ≡ lane (2 * k + 1) → ⊥) → Apart K (carries lane)
 carries-apart K lane differ k h b t u = differ k h (carries-bit lane (2 * k) b t ∙ sym (carries-bit lane (2 * k + 1) b u))
 
 -- the bits d go out, on each lane the bit that it carries

@@ -4,7 +4,7 @@ use Prim.Native.Nat.{_+_, _-_, _*_, _%_, _≤_}
 use native.Mathlib.Omega.{arith}
 use lib.ListN.{length}
 use Rattle.diversity.specs.Loops.Counters.{Adds}
-use Rattle.diversity.proofs.CycleLaws.{run-place}
+use Rattle.diversity.proofs.CycleLaws.{run-lane}
 use Rattle.diversity.proofs.CounterLaws.{adds-none, adds-more, adds-all}
 use borrow.Author.Needs.{needs}
 use Rattle.diversity.proofs.count_symbol.Statement.{statement}
@@ -62,7 +62,7 @@ loop-again c =
       omega arith,
       adds-all _ _ _ _ _ _ _
           (adds-more _ _ _ _ (2 * at .c) (2 * m) (λ j. 2 * bit + j) _ _ (at .inv .2) (counted .count-run .ensures)
-          (λ j l. run-place (args .offset) (at .c) bit j m (run .before .lane-i .ensures) (run .run-length .ensures .2) l))
+          (λ j l. run-lane (args .offset) (at .c) bit j m (run .before .lane-i .ensures) (run .run-length .ensures .2) l))
           (omega arith),
     )
 

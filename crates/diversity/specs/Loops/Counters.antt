@@ -23,8 +23,8 @@ counted n lane items start =
 
 -- counters that counted the first n items have then counted m more, which count for the given lanes in order
 abbrev pub Adds : ℕ → ℕ → (ℕ → ℕ) → List ℕ → List ℕ → List ℕ → Type 0
-Adds n m place items before after =
-    (lane : ℕ → ℕ) (start : List ℕ) → ((j : ℕ) → j < m → lane (n + j) ≡ place j)
+Adds n m onto items before after =
+    (lane : ℕ → ℕ) (start : List ℕ) → ((j : ℕ) → j < m → lane (n + j) ≡ onto j)
     → before ≡ counted n lane items start → after ≡ counted (n + m) lane items start
 
 -- the counters of bit b: that of lane I at place b, and that of lane Q at the place 128 on, or back
