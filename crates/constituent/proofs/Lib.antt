@@ -1,7 +1,7 @@
 -- What the proofs of `constituent` share, and its theorems. Assumes nothing.
 pub mod PairLaws
 pub mod StateLaws
-pub mod RingLaws
+mod RingLaws
 pub mod PassLaws
 mod StepLaws
 mod LinearLaws

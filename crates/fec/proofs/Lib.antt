@@ -1,5 +1,5 @@
 -- What the proofs of `fec` share, and its theorems. Assumes nothing.
 pub mod CodingLaws
 pub mod RecoveryLaws
-pub mod RowLaws
-pub mod PartLaws
+mod RowLaws
+mod PartLaws
