@@ -5,7 +5,6 @@
 use constellation::Mapped;
 use constellation::Received;
 use constellation::Sliced;
-use libc::STDOUT_FILENO;
 use refusal::Answer;
 use refusal::Refusal;
 
@@ -20,16 +19,8 @@ const TWICE_UP: f64 = 5696652996790544.0 / 9007199254740992.0;
 
 const TWICE_DOWN: f64 = 5696652996790542.0 / 9007199254740992.0;
 
-fn text(s: &[u8]) {
-    io::write_all(STDOUT_FILENO, s);
-}
-
-fn number(n: u64) {
-    io::print_decimal(STDOUT_FILENO, n);
-}
-
 fn digit(d: u8) {
-    number(d as u64);
+    output::put_number(d as u64);
 }
 
 // A float's bits, and 0 for a NaN, which has no bits of its own.
@@ -68,18 +59,18 @@ fn value(k: u8) -> f64 {
 fn refused(r: Refusal, with_value: bool) {
     let mut values = [0u64; 2];
     let n = refusal::report(Answer::Refused(r), &mut values);
-    text(b"refused ");
-    number(n as u64);
+    output::put(b"refused ");
+    output::put_number(n as u64);
     if with_value {
-        text(b" ");
-        number(values[0]);
+        output::put(b" ");
+        output::put_number(values[0]);
     }
 }
 
 fn coordinates(i: f64, q: f64) {
-    io::print_hex(STDOUT_FILENO, bits_of(i), 16);
-    text(b" ");
-    io::print_hex(STDOUT_FILENO, bits_of(q), 16);
+    output::put_hex(bits_of(i));
+    output::put(b" ");
+    output::put_hex(bits_of(q));
 }
 
 fn mapping(modulation: u8, d0: u8, d1: u8, d2: u8, d3: u8, with_value: bool) {
@@ -87,7 +78,7 @@ fn mapping(modulation: u8, d0: u8, d1: u8, d2: u8, d3: u8, with_value: bool) {
         Mapped::At(p) => coordinates(p.i, p.q),
         Mapped::Refused(r) => refused(r, with_value),
     }
-    text(b"\n");
+    output::put(b"\n");
 }
 
 fn digits(modulation: u8, d0: u8, d1: u8, d2: u8, d3: u8) {
@@ -108,7 +99,7 @@ fn slicing(modulation: u8, received: Received) {
         Sliced::Four(a, b, c, d) => digits(2, a, b, c, d),
         Sliced::Refused(r) => refused(r, false),
     }
-    text(b"\n");
+    output::put(b"\n");
 }
 
 // The bits of v, from the least significant on.
@@ -117,29 +108,29 @@ fn map_line(modulation: u8, v: u8) {
     let d1 = v / 2 % 2;
     let d2 = v / 4 % 2;
     let d3 = v / 8 % 2;
-    text(b"map ");
+    output::put(b"map ");
     digit(modulation);
-    text(b" ");
+    output::put(b" ");
     digits(modulation, d0, d1, d2, d3);
-    text(b" ");
+    output::put(b" ");
     mapping(modulation, d0, d1, d2, d3, true);
 }
 
 fn slice_line(modulation: u8, a: u8, b: u8) {
-    text(b"slice ");
+    output::put(b"slice ");
     digit(modulation);
-    text(b" ");
+    output::put(b" ");
     digit(a);
-    text(b" ");
+    output::put(b" ");
     digit(b);
-    text(b" ");
+    output::put(b" ");
     slicing(modulation, Received::Heard(value(a), value(b)));
 }
 
 fn lost_line(modulation: u8) {
-    text(b"slice ");
+    output::put(b"slice ");
     digit(modulation);
-    text(b" lost ");
+    output::put(b" lost ");
     slicing(modulation, Received::Lost);
 }
 
@@ -149,11 +140,11 @@ fn two_at(k: u8, j: u8) -> u8 {
 
 // Bit k is 2, and the others are 0.
 fn bad_line(modulation: u8, k: u8) {
-    text(b"map ");
+    output::put(b"map ");
     digit(modulation);
-    text(b" bad ");
+    output::put(b" bad ");
     digit(k);
-    text(b" ");
+    output::put(b" ");
     mapping(
         modulation,
         two_at(k, 0),
@@ -193,9 +184,9 @@ fn main() {
     lost_line(0);
     lost_line(1);
     lost_line(2);
-    text(b"map 3 ");
+    output::put(b"map 3 ");
     mapping(3, 0, 0, 0, 0, false);
-    text(b"slice 3 ");
+    output::put(b"slice 3 ");
     slicing(3, Received::Lost);
     lines(2, 0, 1);
     lines(2, 1, 2);

@@ -1,5 +1,4 @@
 // Prints, for each kind and rate, the source bit numbers of coded bits 0, 1 and so on, as the interleaver puts them in order.
-use libc::STDOUT_FILENO;
 ghost use mathlib.Core.Path.{_≡_};
 ghost use Prim.Native.Nat.{_+_, _*_, _<_, _≤_};
 ghost use lib.ListN.{length};
@@ -50,23 +49,21 @@ fn print_numbers(n: usize, high: &[u8], low: &[u8])
     let mut i: usize = 0;
     while i < n {
         if 0 < i {
-            io::write_all(STDOUT_FILENO, b" ");
+            output::put(b" ");
         }
-        io::print_decimal(STDOUT_FILENO, joined(high[i], low[i]));
+        output::put_number(joined(high[i], low[i]));
         i += 1;
     }
-    io::write_all(STDOUT_FILENO, b"\n");
+    output::put(b"\n");
 }
 
 // The two lines of a kind and rate.
 fn print_layout(kind: usize, rate: usize)
     requires { ⌜ Defined kind rate ⌝ }
 {
-    io::write_all(STDOUT_FILENO, b"kind ");
-    io::print_decimal(STDOUT_FILENO, kind as u64);
-    io::write_all(STDOUT_FILENO, b" rate ");
-    io::print_decimal(STDOUT_FILENO, rate as u64);
-    io::write_all(STDOUT_FILENO, b"\n");
+    output::put_named(b"kind ", kind as u64);
+    output::put_named(b" rate ", rate as u64);
+    output::put(b"\n");
     let n = interleaver::coded_bits(kind, rate);
     let mut high = room();
     let mut low = room();

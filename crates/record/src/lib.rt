@@ -19,16 +19,12 @@ pub const UNTOUCHED_WORD: u64 = 0xA5A5A5A5A5A5A5A5;
 // The most elements of an output.
 pub const MOST: usize = 10000;
 
-// A record, without its label and the bytes of its card, input and expected output.
+// A record without its bytes: the call, the room of the output, and the expected number and value.
 pub struct Record {
-    pub label_len: u64,
     pub call: u64,
-    pub card_len: u64,
-    pub input_len: u64,
     pub room: u64,
     pub number: u64,
     pub value: u64,
-    pub output_len: u64,
 }
 
 // What a call gave: the number, what comes with it, and whether these and the output are as a record expects.

@@ -6,13 +6,20 @@
 //
 // Internal: nothing here is a public entry. What the system's calls do is assumed, as in every program, and no contract can say what is
 // read or written.
-use libc::STDOUT_FILENO;
 use record::Record;
 ghost use Prim.Native.Nat.{_≤_};
 
+// The lengths of a record's bytes.
+pub struct Lengths {
+    pub label: u64,
+    pub card: u64,
+    pub input: u64,
+    pub output: u64,
+}
+
 // What stands next in the file.
 pub enum Next {
-    Of(Record),
+    Of(Record, Lengths),
     End,
     Broken,
 }
@@ -73,13 +80,13 @@ fn card_serves(call: u64, length: u64) -> bool {
 // Reads what stands behind the call and the card, and the bytes of the input and the expected output to the memory lent.
 fn read_rest(
     fd: i32,
-    label_len: u64,
+    label: u64,
     call: u64,
-    card_len: u64,
+    card: u64,
     input: &mut [u8],
     expected: &mut [u8],
 ) -> Next {
-    let Number::Of(input_len) = read_part(fd, input) else {
+    let Number::Of(input_length) = read_part(fd, input) else {
         return Next::Broken;
     };
     let Number::Of(room) = read_number(fd, 2) else {
@@ -91,19 +98,23 @@ fn read_rest(
     let Number::Of(value) = read_number(fd, 8) else {
         return Next::Broken;
     };
-    let Number::Of(output_len) = read_part(fd, expected) else {
+    let Number::Of(output) = read_part(fd, expected) else {
         return Next::Broken;
     };
-    Next::Of(Record {
-        label_len,
-        call,
-        card_len,
-        input_len,
-        room,
-        number,
-        value,
-        output_len,
-    })
+    Next::Of(
+        Record {
+            call,
+            room,
+            number,
+            value,
+        },
+        Lengths {
+            label,
+            card,
+            input: input_length,
+            output,
+        },
+    )
 }
 
 // Reads the next record, and the bytes of its label, card, input and expected output to the memory lent.
@@ -132,35 +143,23 @@ pub fn read_record(
     read_rest(fd, label_len, call, card_len, input, expected)
 }
 
-fn put(s: &[u8]) {
-    io::write_all(STDOUT_FILENO, s);
-}
-
-fn put_number(n: u64) {
-    io::print_decimal(STDOUT_FILENO, n);
-}
-
 // A line with a number at its end.
 pub fn put_line(s: &[u8], n: u64) {
-    put(s);
-    put_number(n);
-    put(b"\n");
+    output::put_named(s, n);
+    output::put(b"\n");
 }
 
 // A label, and the number and the value that its call gave.
 pub fn put_case(label: &[u8], number: u64, value: u64) {
-    put(label);
-    put(b": ");
-    put_number(number);
+    output::put(label);
+    output::put_named(b": ", number);
     put_line(b" ", value);
 }
 
 fn put_counts(name: &[u8], records: u64, mismatches: u64) {
-    put(name);
-    put_number(records);
-    put(b" records, ");
-    put_number(mismatches);
-    put(b" mismatches\n");
+    output::put_named(name, records);
+    output::put_named(b" records, ", mismatches);
+    output::put(b" mismatches\n");
 }
 
 // A line for each call, and one for all.

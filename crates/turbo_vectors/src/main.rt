@@ -1,6 +1,5 @@
-// Prints the kept parity bits of made blocks, a line for each kind, rate and some taps, to be compared with what another
-// program finds for them.
-use libc::STDOUT_FILENO;
+// Prints the kept parity bits of made blocks, a line for each kind, rate and some taps, to be compared with what the
+// reference finds for them.
 ghost use mathlib.Core.Path.{_≡_};
 ghost use Prim.Native.Nat.{_<_};
 ghost use lib.ListN.{length};
@@ -33,12 +32,6 @@ fn to_text(bits: &mut [u8]) {
     }
 }
 
-fn print_number(name: &[u8], value: u64) {
-    io::write_all(STDOUT_FILENO, name);
-    io::print_decimal(STDOUT_FILENO, value);
-    io::write_all(STDOUT_FILENO, b" ");
-}
-
 fn print_parity(kind: usize, rate: usize, taps: u16, bytes: &[u8])
     requires { ⌜ (kind < 5) × (rate < 2) × (length (now bytes) ≡ blockBytes kind) ⌝ }
 {
@@ -48,16 +41,17 @@ fn print_parity(kind: usize, rate: usize, taps: u16, bytes: &[u8])
     bits::unpack(&packed, &mut out);
     to_text(&mut out);
     let n = turbo::kept_count(kind, rate);
-    io::write_all(STDOUT_FILENO, &out[..n]);
-    io::write_all(STDOUT_FILENO, b"\n");
+    output::put(&out[..n]);
+    output::put(b"\n");
 }
 
 fn print_line(kind: usize, rate: usize, taps: u16)
     requires { ⌜ (kind < 5) × (rate < 2) ⌝ }
 {
-    print_number(b"kind ", kind as u64);
-    print_number(b"rate ", rate as u64);
-    print_number(b"taps ", taps as u64);
+    output::put_named(b"kind ", kind as u64);
+    output::put_named(b" rate ", rate as u64);
+    output::put_named(b" taps ", taps as u64);
+    output::put(b" ");
     let mut bytes = [0u8; 520];
     generate(12345 + 1000 * (kind as u32) + taps as u32, &mut bytes);
     let n = card::block_bytes(kind);

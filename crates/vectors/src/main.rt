@@ -6,6 +6,7 @@
 // that the call gave. Then there are the records and mismatches of each call and in all. A file that breaks off or has an unknown call
 // is read up to that record. Further lines number the records that differ, and one that could not be read, from 0 on.
 use record::Record;
+use record_file::Lengths;
 use record_file::Next;
 
 // The most bytes of an input or an expected output in a record.
@@ -26,6 +27,7 @@ fn count(counts: &mut [u64; 10], call: u64) {
 // Makes the call of record k, and counts and prints what came of it.
 fn judge(
     r: Record,
+    lengths: Lengths,
     k: u64,
     label: &[u8],
     card: &[u8],
@@ -36,13 +38,17 @@ fn judge(
 ) {
     let given = record_calls::run(
         r,
-        record::start(card, r.card_len),
-        record::start(input, r.input_len),
-        record::start(expected, r.output_len),
+        record::start(card, lengths.card),
+        record::start(input, lengths.input),
+        record::start(expected, lengths.output),
     );
     count(records, r.call);
-    if 0 < r.label_len {
-        record_file::put_case(record::start(label, r.label_len), given.number, given.value);
+    if 0 < lengths.label {
+        record_file::put_case(
+            record::start(label, lengths.label),
+            given.number,
+            given.value,
+        );
     }
     if !given.agrees {
         count(mismatches, r.call);
@@ -62,8 +68,18 @@ fn run_record(
     let mut label = [0u8; 80];
     let mut card = [0u8; 64];
     match record_file::read_record(fd, &mut label, &mut card, input, expected) {
-        Next::Of(r) => {
-            judge(r, k, &label, &card, input, expected, records, mismatches);
+        Next::Of(r, lengths) => {
+            judge(
+                r,
+                lengths,
+                k,
+                &label,
+                &card,
+                input,
+                expected,
+                records,
+                mismatches,
+            );
             true
         }
         Next::End => false,

@@ -5,29 +5,23 @@ use borrow.Author.Needs.{needs}
 use Rattle.interleaver_vectors.proofs.print_layout.Statement.{statement}
 use Rattle.interleaver_vectors.proofs.print_layout.Tie as tie
 
-slice-aggregate-write-all : tie.Need-slice-aggregate-write-all
-slice-aggregate-write-all c = search needs
+slice-aggregate-put-named : tie.Need-slice-aggregate-put-named
+slice-aggregate-put-named c = search needs
 
-write-all-requires : tie.Need-write-all-requires
-write-all-requires c κs = search needs
+put-named-requires : tie.Need-put-named-requires
+put-named-requires c κs = search needs
 
-print-decimal-requires : tie.Need-print-decimal-requires
-print-decimal-requires c κs = search needs
+slice-aggregate-put-named-2 : tie.Need-slice-aggregate-put-named-2
+slice-aggregate-put-named-2 c = search needs
 
-slice-aggregate-write-all-2 : tie.Need-slice-aggregate-write-all-2
-slice-aggregate-write-all-2 c = search needs
+put-named-requires-2 : tie.Need-put-named-requires-2
+put-named-requires-2 c κs = search needs
 
-write-all-requires-2 : tie.Need-write-all-requires-2
-write-all-requires-2 c κs = search needs
+slice-aggregate-put : tie.Need-slice-aggregate-put
+slice-aggregate-put c = search needs
 
-print-decimal-requires-2 : tie.Need-print-decimal-requires-2
-print-decimal-requires-2 c κs = search needs
-
-slice-aggregate-write-all-3 : tie.Need-slice-aggregate-write-all-3
-slice-aggregate-write-all-3 c = search needs
-
-write-all-requires-3 : tie.Need-write-all-requires-3
-write-all-requires-3 c κs = search needs
+put-requires : tie.Need-put-requires
+put-requires c κs = search needs
 
 coded-bits-requires : tie.Need-coded-bits-requires
 coded-bits-requires c κs = search needs
@@ -43,7 +37,7 @@ slice-aggregate-shuffle c = search needs
 
 shuffle-requires : tie.Need-shuffle-requires
 shuffle-requires c κs =
-    let s = c .before .before .before .before .before .before .before .before .before .before .before .before in
+    let s = c .before .before .before .before .before .before .before .before .before .before in
     (s .pre, omega arith, omega (arith, coded-le (s .args .kind) (s .args .rate) (s .pre), c .before .before .room .ensures))
 
 slice-aggregate-shuffle-2 : tie.Need-slice-aggregate-shuffle-2
@@ -51,7 +45,7 @@ slice-aggregate-shuffle-2 c = search needs
 
 shuffle-requires-2 : tie.Need-shuffle-requires-2
 shuffle-requires-2 c κs =
-    let s = c .before .before .before .before .before .before .before .before .before .before .before .before .before .before .before in
+    let s = c .before .before .before .before .before .before .before .before .before .before .before .before .before in
     (s .pre, omega arith, omega (arith, coded-le (s .args .kind) (s .args .rate) (s .pre), c .before .before .before .before .room2 .ensures))
 
 slice-aggregate-print-numbers : tie.Need-slice-aggregate-print-numbers
@@ -62,7 +56,7 @@ slice-aggregate-print-numbers-2 c = search needs
 
 print-numbers-requires : tie.Need-print-numbers-requires
 print-numbers-requires c κs =
-    let s = c .before .before .before .before .before .before .before .before .before .before .before .before .before .before .before .before .before .before .before in
+    let s = c .before .before .before .before .before .before .before .before .before .before .before .before .before .before .before .before .before in
     let n = c .before .before .before .before .before .before .before .before .before .before .coded-bits in
     let le = coded-le (s .args .kind) (s .args .rate) (s .pre) in (
       omega (arith, le, n .ensures, c .before .before .before .before .before .before .shuffle .kept .1 .1 .1 .0, c .before .before .before .before .before .before .before .before .before .room .ensures),
@@ -76,14 +70,12 @@ pub print-layout-spec : {M : Type 1} → statement M
 print-layout-spec =
     tie.close
     (tie.spec
-    slice-aggregate-write-all
-    write-all-requires
-    print-decimal-requires
-    slice-aggregate-write-all-2
-    write-all-requires-2
-    print-decimal-requires-2
-    slice-aggregate-write-all-3
-    write-all-requires-3
+    slice-aggregate-put-named
+    put-named-requires
+    slice-aggregate-put-named-2
+    put-named-requires-2
+    slice-aggregate-put
+    put-requires
     coded-bits-requires
     room-requires
     room-requires-2
