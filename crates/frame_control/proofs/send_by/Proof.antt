@@ -50,7 +50,7 @@ returns-3 c =
     let long = eq-eqb _ _ (at .before .before .if1 .left) in
     let needed = at .before .item-count .ensures in
     let room = le-ltb _ _ (rw needed at (at .if2 .left)) in
-    (rw needed (simp (long, room)), simp (long, room) (items-sent _ _ _ _ _ _ _ _ (c .before .before .before .before .before .before .encode .ensures) (c .before .before .copy-items .ensures)))
+    (simp (long, room, needed), simp (long, room) (items-sent _ _ _ _ _ _ _ _ (c .before .before .before .before .before .before .encode .ensures) (c .before .before .copy-items .ensures)))
 
 pub send-by-spec : {M : Type 1} → statement M
 send-by-spec =
