@@ -3,7 +3,6 @@ use mathlib.Core.Bool.{not}
 use mathlib.Core.Path.{sym, subst}
 use lib.Dec.{T}
 use lib.Ieee.{Float, nan, inf, fin, eq, isNan}
-use borrow.Author.Needs.{needs}
 use Rattle.record.proofs.has_bits.Statement.{statement}
 use Rattle.record.proofs.has_bits.Tie as tie
 
