@@ -11,20 +11,20 @@ use Rattle.diversity.specs.Lanes.{laneBit, itemCount}
 unfoldable pub copiesOf : ℕ → List ℕ → ℕ → ℕ
 copiesOf carriers offsets b = copies (itemCount carriers offsets) (carries (laneBit carriers offsets)) b
 
--- of two numbers the second where it goes before the first, and of f 0 to f n the one that goes before the others
-abbrev pub earlier : (ℕ → ℕ → Bool) → ℕ → ℕ → ℕ
-earlier before a b = cond (before b a) b a
+-- the lesser of two numbers and the least of f 0 to f n in an order, where `before b a` says that b goes before a
+abbrev pub lesser : (ℕ → ℕ → Bool) → ℕ → ℕ → ℕ
+lesser before a b = cond (before b a) b a
 
-unfoldable pub earliest : (ℕ → ℕ → Bool) → ℕ → (ℕ → ℕ) → ℕ
-earliest before zero f = f 0
-earliest before (suc n) f = earlier before (earliest before n f) (f (suc n))
+unfoldable pub leastBy : (ℕ → ℕ → Bool) → ℕ → (ℕ → ℕ) → ℕ
+leastBy before zero f = f 0
+leastBy before (suc n) f = lesser before (leastBy before n f) (f (suc n))
 
--- the least and the greatest of the 256 copy counts
+-- the least and the greatest of the 256 copy counts: the greatest is the least the other way round
 unfoldable pub fewestCopies : ℕ → List ℕ → ℕ
-fewestCopies carriers offsets = earliest ltb 255 (copiesOf carriers offsets)
+fewestCopies carriers offsets = leastBy ltb 255 (copiesOf carriers offsets)
 
 unfoldable pub mostCopies : ℕ → List ℕ → ℕ
-mostCopies carriers offsets = earliest (λ a b. ltb b a) 255 (copiesOf carriers offsets)
+mostCopies carriers offsets = leastBy (λ a b. ltb b a) 255 (copiesOf carriers offsets)
 
 -- what they are on each band
 abbrev pub bandFewest : ℕ → ℕ

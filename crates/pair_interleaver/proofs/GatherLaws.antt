@@ -56,7 +56,7 @@ digits-pairs bytes halves e t h =
     go i (suc (suc (suc zero))) l b = ap (digitOf 4 halves) (omega arith) ∙ sym (digit-odd 4 halves (2 * i + 1)) ∙ omega (arith, low i l)
     go i (suc (suc (suc (suc j)))) l b = absurd (omega arith)
 
--- the same of the digits as they were written before what was there
+-- the digits at the start of a list that holds more
 module _ (bytes was halves : List ℕ) (e : halves ≡ written (2 * length bytes) (digitOf 16 bytes) was) where
   its-halves : take (2 * length bytes) halves ≡ tabulate (2 * length bytes) (digitOf 16 bytes)
   its-halves = ap (take (2 * length bytes)) e ∙ take-written (2 * length bytes) (digitOf 16 bytes) was

@@ -22,7 +22,7 @@ unfoldable pub layoutFor : ℕ → ℕ → ℕ → Layout
 layoutFor carriers bits coded =
     record { carriers = carriers; bits = bits; symbols = symbolCount carriers bits coded; coded = coded; pad = padBits carriers bits coded }
 
--- the same by band and modulation
+-- the layout of a band and a modulation
 unfoldable pub layoutOf : ℕ → ℕ → ℕ → Layout
 layoutOf band modulation coded = layoutFor (carriers band) (carrierBits modulation) coded
 

@@ -68,7 +68,7 @@ fn of_one(item: u8) -> u8
     if item < 2 { item } else { 2 }
 }
 
-// What a bit's two copies decide. By sums and not by cases, so that the loop below runs in vectors.
+// What a bit's two copies decide. By sums and not by cases, which the loop below runs faster.
 fn of_two(a: u8, b: u8) -> u8
     ensures { λ r. ⌜ r ≡ ofTwo a b ⌝ }
 {

@@ -23,7 +23,7 @@ refusal (Item n) = refused 6 n 0
 refusal (Majority n) = refused 7 n 0
 refusal (Parity n) = refused 8 n 0
 
--- the same of each case of an answer
+-- the report of each case of an answer
 abbrev pub answer : Answer → Report ℕ
 answer (Done n) = done n
 answer (Refused r) = refusal r

@@ -137,10 +137,6 @@ module _ (buf : List ℕ) (at : ℕ) (s : List ℕ) (h : at + length s ≤ lengt
   length-after : length (take at buf ++ s) ≡ at + length s
   length-after = simp (length-append, length-before)
 
-  pub length-appended : length (appended buf at s) ≡ length buf
-  unfolding appended
-  length-appended = simp (length-append, length-drop, length-before) (omega arith)
-
   -- the text so far, and what follows
   pub take-appended : take (at + length s) (appended buf at s) ≡ take at buf ++ s
   unfolding appended

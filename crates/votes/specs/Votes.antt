@@ -14,7 +14,7 @@ wrongItem s r = ltb r 2 && not (eqb r s)
 abbrev pub lostItem : ℕ → Bool
 lostItem r = eqb r 2
 
--- where `lane` gives the bit that each item carries
+-- item n carries bit b, where `lane` gives the bit that each item carries
 unfoldable pub carries : (ℕ → ℕ) → ℕ → ℕ → Bool
 carries lane n b = eqb (lane n) b
 

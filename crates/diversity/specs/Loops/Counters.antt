@@ -31,6 +31,6 @@ Adds n m onto items before after =
 unfoldable pub bitSum : List ℕ → ℕ → ℕ
 bitSum counters b = getD counters (2 * b) 0 + getD counters (2 * ((b + 128) % 256) + 1) 0
 
--- the same from pairs, each with lane I's counter as its low byte and lane Q's as its high one
+-- the counters of bit b from pairs, each with lane I's counter as its low byte and lane Q's as its high one
 unfoldable pub pairSum : List ℕ → ℕ → ℕ
 pairSum pairs b = getD pairs b 0 % 256 + getD pairs ((b + 128) % 256) 0 / 256

@@ -20,7 +20,7 @@ unfoldable pub sourceAt : Shape → ℕ → ℕ
 sourceAt L j =
     cond (ltb j (L .rows * 4)) (j % 4 * L .rows + j / 4) (L .rows * 4 + ((j - L .rows * 4) % 4 * L .parity + (j - L .rows * 4) / 4))
 
--- the same at a kind and rate
+-- the place of coded bit i, and the source bit at place j, at a kind and rate
 unfoldable pub rowPlace : ℕ → ℕ → ℕ → ℕ
 rowPlace kind rate i = placeOf (shapeOf kind rate) i
 
