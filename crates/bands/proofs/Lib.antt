@@ -1,3 +1,3 @@
 -- What the proofs of `bands` share, and its theorems. Assumes nothing.
 pub mod BandLaws
-pub mod UnitLaws
+mod UnitLaws

@@ -1,6 +1,6 @@
 -- What the proofs of `diversity` share, and its theorems. Assumes nothing.
 pub mod LaneLaws
-pub mod CopyLaws
+mod CopyLaws
 pub mod LimitLaws
 pub mod BandLaws
 mod CycleLaws

@@ -1,6 +1,6 @@
 -- What the entries come to, case by case: by what the gate says of the card, and then by each row behind it. Assumes nothing.
 use mathlib.Core.Path.{_≡_, refl, sym, ap, _∙_}
-use mathlib.Core.Bool.{not}
+use mathlib.Core.Bool.{true, not}
 use mathlib.Core.List.{List, _++_}
 use Prim.Native.Nat.{ℕ, _*_, _≤_, _<_}
 use native.Mathlib.Omega.{arith}
@@ -27,7 +27,7 @@ use Rattle.fec.proofs.CodingLaws.{coded-count}
 use Rattle.fec.proofs.RecoveryLaws.{all-decided}
 use Rattle.payload_layout.specs.declared.Layout.{Layout}
 use Rattle.payload_layout.specs.Layouts.{items}
-use Rattle.payload.specs.Entries.{blockLayout, sendRows, itemsMade, sendBy, send, decidedBit, blockMade, itemRows, readRows, decidedBlock, readBy, read}
+use Rattle.payload.specs.Entries.{blockLayout, padRow, sendRows, itemsMade, sendBy, send, decidedBit, blockMade, itemRows, readRows, decidedBlock, readBy, read}
 
 -- ---- by what the gate says of the card
 
@@ -58,50 +58,53 @@ module _ (c : Card) where
   abbrev L : Layout
   L = blockLayout c
 
+  pad-applies : L .coded < L .pad → padRow L .applies ≡ true
+  pad-applies h = lt-ltb (L .coded) (L .pad) h
+
   -- sending
 
   module _ (block out : List ℕ) where
     pub send-pad : L .coded < L .pad → sendBy c block out ≡ record { report = refusal (Pad (L .pad)); out = out }
     unfolding sendBy
-    send-pad h = rw (lt-ltb (L .coded) (L .pad) h)
+    send-pad h = simp (pad-applies h)
 
     module _ (within : L .pad ≤ L .coded) where
       pub send-length : (length block ≡ blockBytes (c .kind) → ⊥) → sendBy c block out ≡ record { report = refusal (Length (length block)); out = out }
       unfolding sendBy
-      send-length h = rw (le-ltb (L .coded) (L .pad) within, ne-eqb (length block) (blockBytes (c .kind)) h)
+      send-length h = simp (le-ltb (L .coded) (L .pad) within, ne-eqb (length block) (blockBytes (c .kind)) h)
 
       module _ (long : length block ≡ blockBytes (c .kind)) where
         pub send-room : length out < items L → sendBy c block out ≡ record { report = refusal (Room (items L)); out = out }
         unfolding sendBy
-        send-room h = rw (le-ltb (L .coded) (L .pad) within, eq-eqb (length block) (blockBytes (c .kind)) long, lt-ltb (length out) (items L) h)
+        send-room h = simp (le-ltb (L .coded) (L .pad) within, eq-eqb (length block) (blockBytes (c .kind)) long, lt-ltb (length out) (items L) h)
 
         pub send-done : items L ≤ length out → sendBy c block out ≡ record { report = done (items L); out = itemsMade c block out }
         unfolding sendBy
-        send-done h = rw (le-ltb (L .coded) (L .pad) within, eq-eqb (length block) (blockBytes (c .kind)) long, le-ltb (length out) (items L) h)
+        send-done h = simp (le-ltb (L .coded) (L .pad) within, eq-eqb (length block) (blockBytes (c .kind)) long, le-ltb (length out) (items L) h)
 
   -- reading
 
   module _ (received out : List ℕ) where
     pub read-pad : L .coded < L .pad → readBy c received out ≡ record { report = refusal (Pad (L .pad)); out = out }
     unfolding readBy
-    read-pad h = rw (lt-ltb (L .coded) (L .pad) h)
+    read-pad h = simp (pad-applies h)
 
     module _ (within : L .pad ≤ L .coded) where
       pub read-length : (length received ≡ items L → ⊥) → readBy c received out ≡ record { report = refusal (Length (length received)); out = out }
       unfolding readBy
-      read-length h = rw (le-ltb (L .coded) (L .pad) within, ne-eqb (length received) (items L) h)
+      read-length h = simp (le-ltb (L .coded) (L .pad) within, ne-eqb (length received) (items L) h)
 
       module _ (long : length received ≡ items L) where
         pub read-room : length out < blockBytes (c .kind) → readBy c received out ≡ record { report = refusal (Room (blockBytes (c .kind))); out = out }
         unfolding readBy
-        read-room h = rw (le-ltb (L .coded) (L .pad) within, eq-eqb (length received) (items L) long, lt-ltb (length out) (blockBytes (c .kind)) h)
+        read-room h = simp (le-ltb (L .coded) (L .pad) within, eq-eqb (length received) (items L) long, lt-ltb (length out) (blockBytes (c .kind)) h)
 
         module _ (room : blockBytes (c .kind) ≤ length out) where
           pub read-item : firstAbove 2 received < length received
               → readBy c received out ≡ record { report = refusal (Item (firstAbove 2 received)); out = out }
           unfolding readBy
           read-item h =
-              rw (le-ltb (L .coded) (L .pad) within, eq-eqb (length received) (items L) long, le-ltb (length out) (blockBytes (c .kind)) room, lt-ltb (firstAbove 2 received) (length received) h)
+              simp (le-ltb (L .coded) (L .pad) within, eq-eqb (length received) (items L) long, le-ltb (length out) (blockBytes (c .kind)) room, lt-ltb (firstAbove 2 received) (length received) h)
 
           -- the items are legal, and the decided bits come to the block or to refusal 7 or 8
           pub read-decided : length received ≤ firstAbove 2 received → readBy c received out ≡ decidedBlock (c .kind) (c .rate) (c .taps) (decidedBit L received) out

@@ -4,10 +4,11 @@ use mathlib.Core.List.{List}
 use Prim.Native.Nat.{ℕ, _≤_}
 use native.Mathlib.Omega.{arith}
 use lib.ListN.{length}
+use Rattle.refusal.specs.Report.{done}
 use Rattle.refusal.specs.Outcome.{Outcome}
 use Rattle.card.specs.Modes.{blockBytes}
 use Rattle.payload_layout.specs.declared.Layout.{Layout}
-use Rattle.payload_layout.specs.Layouts.{Laid}
+use Rattle.payload_layout.specs.Layouts.{items, Laid}
 use Rattle.payload.specs.Entries.{blockLayout}
 use Rattle.payload.proofs.ModeLaws.{layout-bits, layout-checked}
 use Rattle.payload.proofs.EntryLaws.{send-pad, send-length, send-room, send-done}
@@ -87,7 +88,7 @@ returns-4 c =
     let is = o .before .before .block-layout .ensures in
     let needed = q .before .before .item-count .ensures in
     let law = sym (send-done (z .args .c) (z .args .block .now) (z .args .out .now) (within o) (long (q .before)) (rw (needed, is) at (q .if3 .left))) in
-    (rw (needed, is) (ap (λ (o : Outcome ℕ (List ℕ)). o .report) law), c .before .before .send-items .ensures ∙ rw is (ap (λ (o : Outcome ℕ (List ℕ)). o .out) law))
+    (ap (λ (n : ℕ). done n) (needed ∙ ap items is) ∙ ap (λ (o : Outcome ℕ (List ℕ)). o .report) law, c .before .before .send-items .ensures ∙ rw is (ap (λ (o : Outcome ℕ (List ℕ)). o .out) law))
 
 pub send-by-spec : {M : Type 1} → statement M
 send-by-spec =
