@@ -71,7 +71,7 @@ fn read_by(carriers: usize, offsets: &[u8], taps: u16, items: &[u8], out: &mut [
     if bad < items.len() {
         return Answer::Refused(Refusal::Item(bad));
     }
-    let decided = diversity::decide(carriers, offsets, items);
+    let decided = combining::decide(carriers, offsets, items);
     fec::recover(0, 0, taps, &decided, out)
 }
 

@@ -1,14 +1,14 @@
--- `diversity::count_symbol` meets its contract. The invariant: the items of the places passed are counted. Assumes nothing.
+-- `combining::count_symbol` meets its contract. The invariant: the items of the places passed are counted. Assumes nothing.
 use mathlib.Core.Path.{_≡_}
 use Prim.Native.Nat.{_+_, _-_, _*_, _%_, _≤_}
 use native.Mathlib.Omega.{arith}
 use lib.ListN.{length}
-use Rattle.diversity.specs.Loops.Counters.{Adds}
 use Rattle.diversity.proofs.CycleLaws.{run-lane}
-use Rattle.diversity.proofs.CounterLaws.{adds-none, adds-more, adds-all}
+use Rattle.combining.specs.Loops.Counters.{Adds}
+use Rattle.combining.proofs.CounterLaws.{adds-none, adds-more, adds-all}
 use borrow.Author.Needs.{needs}
-use Rattle.diversity.proofs.count_symbol.Statement.{statement}
-use Rattle.diversity.proofs.count_symbol.Tie as tie
+use Rattle.combining.proofs.count_symbol.Statement.{statement}
+use Rattle.combining.proofs.count_symbol.Tie as tie
 
 abbrev Inv-loop : tie.InvT-loop
 Inv-loop carriers offset n items counters₀ c₀ counters c =

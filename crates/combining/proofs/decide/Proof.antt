@@ -1,8 +1,8 @@
--- `diversity::decide` meets its contract: the counters tell the majority. Assumes nothing.
-use Rattle.diversity.proofs.CounterLaws.{counters-decide}
+-- `combining::decide` meets its contract: the counters tell the majority. Assumes nothing.
+use Rattle.combining.proofs.CounterLaws.{counters-decide}
 use borrow.Author.Needs.{needs}
-use Rattle.diversity.proofs.decide.Statement.{statement}
-use Rattle.diversity.proofs.decide.Tie as tie
+use Rattle.combining.proofs.decide.Statement.{statement}
+use Rattle.combining.proofs.decide.Tie as tie
 
 middle-counters-requires : tie.Need-middle-counters-requires
 middle-counters-requires c κs = search needs

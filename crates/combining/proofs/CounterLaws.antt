@@ -17,12 +17,12 @@ use Rattle.bits.proofs.NumberLaws.{lt-cases}
 use Rattle.bits.proofs.ListLaws.{length-tabulate, getD-tabulate, tabulate-of, tabulate-ext, written-whole}
 use Rattle.bits.proofs.SumLaws.{sum-ext, sum-add, sum-within, count-next, count-none}
 use Rattle.votes.specs.Votes.{carries, copies, votes, majority, decided}
 use Rattle.diversity.specs.Lanes.{laneBit, itemCount}
 use Rattle.diversity.specs.Copies.{copiesOf}
 use Rattle.diversity.specs.Loops.Cycle.{cycleBit, cycleLane}
-use Rattle.diversity.specs.Loops.Counters.{middle, afterItem, counted, Adds, bitSum, pairSum}
 use Rattle.diversity.proofs.CopyLaws.{placesOf, copiesBy, copies-formula}
 use Rattle.diversity.proofs.CycleLaws.{cycle-I, cycle-Q, cycle-below, lane-is, two-halves}
+use Rattle.combining.specs.Loops.Counters.{middle, afterItem, counted, Adds, bitSum, pairSum}
 
 -- ---- items more
 

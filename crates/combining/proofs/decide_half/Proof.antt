@@ -1,4 +1,4 @@
--- `diversity::decide_half` meets its contract. The invariant: the first b bits are decided. Assumes nothing.
+-- `combining::decide_half` meets its contract. The invariant: the first b bits are decided. Assumes nothing.
 use mathlib.Core.Path.{_≡_, refl, ap, _∙_}
 use Prim.Native.Nat.{_+_, _-_, _%_, _≤_}
 use native.Mathlib.Omega.{arith}
@@ -6,11 +6,11 @@ use lib.ListN.{length, length-set}
 use Rattle.bits.specs.Lists.{written}
 use Rattle.bits.proofs.ListLaws.{written-none, written-next, written-all}
 use Rattle.votes.specs.Votes.{majority}
-use Rattle.diversity.specs.Loops.Counters.{pairSum}
-use Rattle.diversity.proofs.CounterLaws.{pair-sum}
+use Rattle.combining.specs.Loops.Counters.{pairSum}
+use Rattle.combining.proofs.CounterLaws.{pair-sum}
 use borrow.Author.Needs.{needs}
-use Rattle.diversity.proofs.decide_half.Statement.{statement}
-use Rattle.diversity.proofs.decide_half.Tie as tie
+use Rattle.combining.proofs.decide_half.Statement.{statement}
+use Rattle.combining.proofs.decide_half.Tie as tie
 
 abbrev Inv-loop : tie.InvT-loop
 Inv-loop first both bits₀ i q b₀ bits b =

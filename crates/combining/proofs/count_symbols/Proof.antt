@@ -1,18 +1,18 @@
--- `diversity::count_symbols` meets its contract. The invariant: the items of the symbols passed, n of them, are counted. Assumes nothing.
+-- `combining::count_symbols` meets its contract. The invariant: the items of the symbols passed, n of them, are counted. Assumes nothing.
 use mathlib.Core.Path.{_≡_, sym}
 use Prim.Native.Nat.{_+_, _-_, _*_, _≤_}
 use native.Mathlib.Nat.{zero-add}
 use native.Mathlib.Omega.{arith}
 use lib.ListN.{length}
 use Rattle.bits.proofs.NumberLaws.{row-next}
 use Rattle.diversity.specs.Loops.Cycle.{cycleLane}
-use Rattle.diversity.specs.Loops.Counters.{Adds}
 use Rattle.diversity.proofs.LaneLaws.{symbol-within, symbols-all}
 use Rattle.diversity.proofs.CycleLaws.{cycle-at}
-use Rattle.diversity.proofs.CounterLaws.{adds-none, adds-more, adds-all}
+use Rattle.combining.specs.Loops.Counters.{Adds}
+use Rattle.combining.proofs.CounterLaws.{adds-none, adds-more, adds-all}
 use borrow.Author.Needs.{needs}
-use Rattle.diversity.proofs.count_symbols.Statement.{statement}
-use Rattle.diversity.proofs.count_symbols.Tie as tie
+use Rattle.combining.proofs.count_symbols.Statement.{statement}
+use Rattle.combining.proofs.count_symbols.Tie as tie
 
 abbrev Inv-loop : tie.InvT-loop
 Inv-loop carriers offsets items counters₀ n₀ s₀ counters n s =

@@ -1,0 +1,2 @@
+-- What the proofs of `combining` share. Assumes nothing.
+mod CounterLaws

@@ -1,0 +1,2 @@
+-- What the contracts of `combining` cite. Assumes nothing.
+pub mod Loops
