@@ -26,8 +26,8 @@ same() {
 
 matrices=$(sed -nE 's/^matrix kind = getD \((.*) ∷ \[\]\) kind \[\]$/\1/p' crates/constituent/specs/*.antt)
 read -ra matrix <<< "${matrices//∷/}"
-read -ra offset <<< "$(numbers interleaver offsets)"
-read -ra step <<< "$(numbers interleaver steps)"
+read -ra offset <<< "$(numbers interleaver_shape offsets)"
+read -ra step <<< "$(numbers interleaver_shape steps)"
 kind=0
 for bytes in 16 72 136 264 520; do
   starts=$(numbers pair_interleaver "starts$bytes")

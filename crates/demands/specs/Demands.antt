@@ -18,7 +18,7 @@ use Rattle.constellation.specs.declared.Received.{Received}
 use Rattle.constellation.specs.Carriers.{throughPoints}
 use Rattle.constellation.specs.Entries.{mapOutcome, sliceOutcome}
 use Rattle.scrambler.specs.Scrambler.{scrambled}
-use Rattle.interleaver.specs.Source.{codedBits}
+use Rattle.interleaver_shape.specs.Shapes.{codedBits}
 use Rattle.fec.specs.Coding.{codedBit}
 use Rattle.votes.specs.Votes.{copies, wrongCopies, lostCopies}
 use Rattle.votes.specs.Damage.{Damage, altered, lost}

@@ -15,8 +15,8 @@ use Rattle.turbo.specs.Parity.{keptBit}
 use Rattle.turbo.proofs.ParityLaws.{kept-binary, kept-ext}
 use Rattle.turbo.proofs.PunctureLaws.{kept-count, kept-le}
 use Rattle.constituent.proofs.PairLaws.{few-pairs}
-use Rattle.interleaver.specs.Shapes.{groups}
-use Rattle.interleaver.specs.Source.{codedBits, source}
+use Rattle.interleaver_shape.specs.Shapes.{groups, codedBits}
+use Rattle.interleaver.specs.Source.{source}
 use Rattle.interleaver.proofs.InterleaverLaws.{source-lt}
 use Rattle.fec.specs.Coding.{dataBits, sourceBit, codedBit}
 

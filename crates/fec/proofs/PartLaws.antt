@@ -16,7 +16,8 @@ use Rattle.card.specs.Modes.{blockBytes, Defined}
 use Rattle.turbo.specs.Puncture.{keptCount}
 use Rattle.turbo.specs.Parity.{keptBit}
 use Rattle.turbo.proofs.ParityLaws.{kept-ext}
-use Rattle.interleaver.specs.Source.{codedBits, codedAt}
+use Rattle.interleaver_shape.specs.Shapes.{codedBits}
+use Rattle.interleaver.specs.Source.{codedAt}
 use Rattle.interleaver.proofs.InterleaverLaws.{coded-lt}
 use Rattle.fec.specs.Coding.{dataBits}
 use Rattle.fec.specs.Recovery.{dataBit, parityBit, firstUndecided, disagreeing}

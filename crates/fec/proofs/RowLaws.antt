@@ -20,8 +20,8 @@ use Rattle.columns.specs.Loops.Heights.{tallest, ServedHeight}
 use Rattle.turbo.specs.Puncture.{keptCount}
 use Rattle.turbo.specs.Parity.{keptBit}
 use Rattle.turbo.proofs.ParityLaws.{kept-binary}
-use Rattle.interleaver.specs.Shapes.{shapeOf}
-use Rattle.interleaver.specs.Source.{codedBits, source, codedAt}
+use Rattle.interleaver_shape.specs.Shapes.{shapeOf, codedBits}
+use Rattle.interleaver.specs.Source.{source, codedAt}
 use Rattle.interleaver.specs.Loops.RowOrder.{sourceAt, rowPlace, rowSource}
 use Rattle.interleaver.proofs.InterleaverLaws.{coded-lt, row-place-lt, row-source-lt, row-source-place}
 use Rattle.interleaver.proofs.RowLaws.{filled-lt}

@@ -13,7 +13,8 @@ use Rattle.refusal.specs.Outcome.{Row, row, Outcome, outcome}
 use Rattle.card.specs.Modes.{blockBytes}
 use Rattle.turbo.specs.Puncture.{keptCount}
 use Rattle.turbo.specs.Parity.{keptBit}
-use Rattle.interleaver.specs.Source.{codedBits, codedAt}
+use Rattle.interleaver_shape.specs.Shapes.{codedBits}
+use Rattle.interleaver.specs.Source.{codedAt}
 use Rattle.fec.specs.Coding.{dataBits}
 
 -- data bit k and kept parity bit i, as the coded bits e were decided

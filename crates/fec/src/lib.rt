@@ -16,7 +16,7 @@ ghost use Rattle.refusal.specs.Report.{answer};
 ghost use Rattle.card.specs.Modes.{blockBytes, Defined};
 ghost use Rattle.turbo.specs.Puncture.{keptCount};
 ghost use Rattle.turbo.specs.Parity.{keptBit};
-ghost use Rattle.interleaver.specs.Source.{codedBits};
+ghost use Rattle.interleaver_shape.specs.Shapes.{codedBits};
 ghost use Rattle.interleaver.specs.Loops.RowOrder.{rowSource};
 ghost use Rattle.fec.specs.Coding.{sourceBit, codedBit};
 ghost use Rattle.fec.specs.Recovery.{dataBit, parityBit, recovered};
@@ -37,12 +37,12 @@ fn source_rows(
         (λ j. sourceBit kind rate taps (bitOf (now (bytes .entry))) (rowSource kind rate j)) (now (rows .entry)) ⌝ }
 {
     let kept = turbo::kept_count(kind, rate) / 8;
-    let height = interleaver::data_rows(kind);
+    let height = interleaver_shape::data_rows(kind);
     let data = 4 * height;
     turbo::encode(kind, rate, taps, bytes, parity);
     columns::to_rows(height, bytes, rows);
     columns::to_rows(
-        interleaver::parity_rows(kind, rate),
+        interleaver_shape::parity_rows(kind, rate),
         &parity[..kept],
         &mut rows[data..],
     );
@@ -57,7 +57,7 @@ fn encode_by(kind: usize, rate: usize, taps: u16, bytes: &[u8], rows: &mut [u8],
 {
     let mut parity = [0u8; 520];
     source_rows(kind, rate, taps, bytes, &mut parity, rows);
-    let coded = interleaver::coded_bits(kind, rate);
+    let coded = interleaver_shape::coded_bits(kind, rate);
     interleaver::interleave(kind, rate, &rows[..coded], out);
 }
 
@@ -100,12 +100,12 @@ fn take_apart(
         (byteOf (parityBit kind rate (λ i. getD (now (decided .entry)) i 0))) (now (parity .entry)) ⌝ }
 {
     let coded = decided.len();
-    let height = interleaver::data_rows(kind);
+    let height = interleaver_shape::data_rows(kind);
     let data = 4 * height;
     interleaver::deinterleave(kind, rate, decided, rows);
     columns::from_rows(height, &rows[..data], block);
     columns::from_rows(
-        interleaver::parity_rows(kind, rate),
+        interleaver_shape::parity_rows(kind, rate),
         &rows[data..coded],
         parity,
     );

@@ -7,9 +7,9 @@ use lib.ListN.{getD, drop}
 use Rattle.bits.specs.Bits.{bitOf, bytesOf}
 use Rattle.bits.specs.Lists.{tabulate, written}
 use Rattle.bits.proofs.ListLaws.{getD-tabulate, getD-written, written-ext}
-use Rattle.interleaver.specs.Source.{codedBits}
+use Rattle.interleaver_shape.specs.Shapes.{codedBits}
 use Rattle.card.proofs.ModeLaws.{defined-half}
-use Rattle.interleaver.proofs.InterleaverLaws.{coded-half}
+use Rattle.interleaver_shape.proofs.ShapeLaws.{coded-half}
 use Rattle.fec.specs.Coding.{codedBit}
 use Rattle.diversity.specs.Lanes.{laneBit, itemCount}
 use Rattle.diversity.proofs.LaneLaws.{lane-below}

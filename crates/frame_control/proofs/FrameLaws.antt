@@ -18,8 +18,8 @@ use Rattle.refusal.proofs.OutcomeLaws.{outcome-good}
 use Rattle.card.specs.Card.{cardOf}
 use Rattle.card.proofs.GateLaws.{gate-served}
 use Rattle.card.proofs.ModeLaws.{defined-half}
-use Rattle.interleaver.specs.Source.{codedBits}
-use Rattle.interleaver.proofs.InterleaverLaws.{coded-half}
+use Rattle.interleaver_shape.specs.Shapes.{codedBits}
+use Rattle.interleaver_shape.proofs.ShapeLaws.{coded-half}
 use Rattle.fec.specs.Coding.{codedBit}
 use Rattle.fec.specs.Recovery.{firstUndecided, recovered}
 use Rattle.fec.proofs.CodingLaws.{coded-binary}

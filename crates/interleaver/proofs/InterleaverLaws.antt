@@ -1,39 +1,22 @@
 -- The channel interleaver's laws, for callers: at every defined kind and rate the source bits of the coded bits are a permutation, and
 -- `source` and `codedAt` undo each other. Assumes nothing.
-use mathlib.Core.Path.{_≡_, refl, sym, ap, _∙_}
+use mathlib.Core.Path.{_≡_, sym, ap, _∙_}
 use mathlib.Core.List.{List}
-use Prim.Native.Nat.{ℕ, _+_, _*_, _/_, _<_, _≤_}
-use native.Mathlib.Nat.{le-of-suc-le-suc}
+use Prim.Native.Nat.{ℕ, _<_}
 use lib.ListN.{length, getD}
 use Rattle.bits.specs.Lists.{tabulate}
 use Rattle.bits.specs.Permutations.{Permutes}
 use Rattle.bits.proofs.ListLaws.{getD-tabulate, tabulate-of}
 use Rattle.bits.proofs.PermutationLaws.{inverse, inverse-after, after-inverse, inverse-lt}
-use Rattle.bits.proofs.RangeLaws.{agree, under₂}
-use Rattle.card.specs.Modes.{blockBytes, Defined}
-use Rattle.interleaver.specs.Shapes.{groups, shapeOf}
-use Rattle.interleaver.specs.Source.{codedBits, source, codedAt}
+use Rattle.card.specs.Modes.{Defined}
+use Rattle.interleaver_shape.specs.Shapes.{shapeOf, codedBits}
+use Rattle.interleaver.specs.Source.{source, codedAt}
 use Rattle.interleaver.specs.Loops.RowOrder.{rowPlace, rowSource}
-use Rattle.interleaver.proofs.ShapeLaws.{sound-of}
+use Rattle.interleaver_shape.proofs.ShapeLaws.{sound-of}
 use Rattle.interleaver.proofs.SourceLaws.{source-permutes}
 use Rattle.interleaver.proofs.RowLaws.{source-at-place, source-at-lt, place-permutes}
 
--- at rate 1/2 a byte of the block makes 16 coded bits; at 16/18 the 520 bytes make 4,680
-pub coded-half : (kind : ℕ) → kind < 5 → codedBits kind 0 ≡ blockBytes kind * 16
-unfolding codedBits
-coded-half kind h = agree 5 (λ k. (blockBytes k * 2 + blockBytes k * 2 / 1) * 4) (λ k. blockBytes k * 16) tt kind h
-
-pub coded-high : codedBits 4 1 ≡ 4680
-unfolding codedBits
-coded-high = refl
-
 module _ (kind rate : ℕ) (D : Defined kind rate) where
-  pub coded-le : codedBits kind rate ≤ 8320
-  unfolding codedBits
-  coded-le =
-      le-of-suc-le-suc
-      (under₂ 5 2 8321 (λ k r. (blockBytes k * 2 + blockBytes k * 2 / getD groups r 0) * 4) tt kind rate (D .kind-lt) (D .rate-lt))
-
   -- the interleaver is a permutation of the coded bits
   pub permutes : Permutes (codedBits kind rate) (source kind rate)
   unfolding codedBits source

@@ -3,7 +3,6 @@ pub mod InterleaverLaws
 pub mod RowLaws
 mod PassLaws
 mod SourceLaws
-mod ShapeLaws
 mod WalkLaws
 mod StreamLaws
 mod NibbleLaws

@@ -6,9 +6,9 @@ use Prim.Native.Nat.{ℕ, _+_, _-_, _*_, _/_, _%_, _<_, _≤_}
 use native.Mathlib.Omega.{arith}
 use lib.ListN.{length, getD}
 use Rattle.bits.specs.Permutations.{Permutes}
-use Rattle.interleaver.specs.declared.Shape.{Shape}
-use Rattle.interleaver.specs.Shapes.{shapeOf}
-use Rattle.interleaver.specs.Source.{column, codedOf, codedBits}
+use Rattle.interleaver_shape.specs.declared.Shape.{Shape}
+use Rattle.interleaver_shape.specs.Shapes.{shapeOf, codedOf, codedBits}
+use Rattle.interleaver.specs.Source.{column}
 use Rattle.interleaver.specs.Loops.RowOrder.{rowOf, placeOf, rowPlace}
 use Rattle.bits.specs.Loops.Words.{wordByte, stored}
 use Rattle.interleaver.specs.Loops.Moving.{Moving}

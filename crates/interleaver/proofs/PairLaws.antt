@@ -6,8 +6,8 @@ use native.Mathlib.Nat.{mod-lt}
 use native.Mathlib.Omega.{arith}
 use lib.Dec.{ltb}
 use borrow.Author.Tests.{le-ltb, eq-eqb, ne-eqb}
-use Rattle.interleaver.specs.declared.Shape.{Shape}
-use Rattle.interleaver.specs.Loops.Bounds.{Sound, Paired}
+use Rattle.interleaver_shape.specs.declared.Shape.{Shape}
+use Rattle.interleaver_shape.specs.Loops.Bounds.{Sound, Paired}
 use Rattle.interleaver.specs.Rows.{passRow, movedRow}
 use Rattle.interleaver.specs.Source.{parityRow, groupOf, placeIn, isParity, dataPlace}
 use Rattle.interleaver.specs.Loops.RowOrder.{rowOf}

@@ -9,9 +9,10 @@ use borrow.Author.Tests.{lt-ltb, le-ltb}
 use Rattle.bits.specs.Permutations.{Permutes}
 use Rattle.bits.proofs.BoolLaws.{test-cases}
 use Rattle.bits.proofs.NumberLaws.{lt-cases}
-use Rattle.interleaver.specs.declared.Shape.{Shape}
-use Rattle.interleaver.specs.Loops.Bounds.{Sound}
-use Rattle.interleaver.specs.Source.{dataRow, parityRow, groupOf, isParity, dataPlace, nibbleBit, column, sourceOf, codedOf}
+use Rattle.interleaver_shape.specs.declared.Shape.{Shape}
+use Rattle.interleaver_shape.specs.Loops.Bounds.{Sound}
+use Rattle.interleaver_shape.specs.Shapes.{codedOf}
+use Rattle.interleaver.specs.Source.{dataRow, parityRow, groupOf, isParity, dataPlace, nibbleBit, column, sourceOf}
 use Rattle.interleaver.specs.Loops.RowOrder.{rowOf, placeOf, sourceAt}
 use Rattle.interleaver.proofs.SourceLaws.{data-row-lt, parity-row-lt, bit-data, bit-parity, source-permutes}
 

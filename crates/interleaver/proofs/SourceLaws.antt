@@ -9,10 +9,11 @@ use lib.Arith.{digits-div, digits-mod, digits-lt}
 use borrow.Author.Tests.{lt-ltb, le-ltb, eqb-true, eqb-false}
 use Rattle.bits.specs.Permutations.{Permutes}
 use Rattle.bits.proofs.NumberLaws.{lt-cases}
-use Rattle.interleaver.specs.declared.Shape.{Shape}
+use Rattle.interleaver_shape.specs.declared.Shape.{Shape}
 use Rattle.interleaver.specs.Rows.{passRow, movedRow, continuousRow}
-use Rattle.interleaver.specs.Loops.Bounds.{Sound}
-use Rattle.interleaver.specs.Source.{dataRow, parityRow, groupOf, placeIn, isParity, dataPlace, nibbleBit, column, sourceOf, codedOf}
+use Rattle.interleaver_shape.specs.Loops.Bounds.{Sound}
+use Rattle.interleaver_shape.specs.Shapes.{codedOf}
+use Rattle.interleaver.specs.Source.{dataRow, parityRow, groupOf, placeIn, isParity, dataPlace, nibbleBit, column, sourceOf}
 use Rattle.interleaver.proofs.PassLaws.{pass-permutes, moved-permutes, continuous-permutes}
 
 -- the places of a group with the lead's left out, and back

@@ -10,8 +10,8 @@ use lib.Arith.{digits-div, digits-mod}
 use borrow.Author.Tests.{lt-ltb, le-ltb, eqb-true, eqb-false, eq-eqb, ne-eqb}
 use Rattle.bits.proofs.BoolLaws.{test-cases}
 use Rattle.bits.proofs.NumberLaws.{lt-cases}
-use Rattle.interleaver.specs.declared.Shape.{Shape}
-use Rattle.interleaver.specs.Loops.Bounds.{Sound}
+use Rattle.interleaver_shape.specs.declared.Shape.{Shape}
+use Rattle.interleaver_shape.specs.Loops.Bounds.{Sound}
 use Rattle.interleaver.specs.Source.{groupOf, placeIn, isParity, dataPlace}
 use Rattle.interleaver.specs.Loops.Walks.{parityPlace, untilParity}
 use Rattle.interleaver.proofs.SourceLaws.{place-lt, group-lt, data-place-lt}

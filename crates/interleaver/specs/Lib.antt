@@ -1,5 +1,4 @@
 -- What the contracts and the theorems of `interleaver` cite. Assumes nothing.
 pub mod Rows
-pub mod Shapes
 pub mod Source
 pub mod Loops

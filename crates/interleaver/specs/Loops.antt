@@ -1,5 +1,4 @@
 -- What only the contracts of loops and the laws cite. Assumes nothing.
-pub mod Bounds
 pub mod RowOrder
 pub mod Stores
 pub mod Walks

@@ -5,9 +5,9 @@ use mathlib.Core.Bool.{Bool, cond}
 use Prim.Native.Nat.{ℕ, _+_, _-_, _*_, _/_, _%_}
 use lib.Dec.{ltb, eqb}
 use Rattle.bits.specs.Lists.{lowest}
-use Rattle.interleaver.specs.declared.Shape.{Shape}
+use Rattle.interleaver_shape.specs.declared.Shape.{Shape}
 use Rattle.interleaver.specs.Rows.{passRow, movedRow, continuousRow}
-use Rattle.interleaver.specs.Shapes.{shapeOf}
+use Rattle.interleaver_shape.specs.Shapes.{shapeOf, codedBits}
 
 -- 5.1.5.4.2: the data row that the p-th data nibble is
 abbrev pub dataRow : Shape → ℕ → ℕ
@@ -45,14 +45,6 @@ column n b = (b + (4 - n / 2 % 4)) % 4
 -- the source bit that coded bit i of a shape is
 unfoldable pub sourceOf : Shape → ℕ → ℕ
 sourceOf L i = nibbleBit L (i / 4) (column (i / 4) (i % 4))
-
--- the number of coded bits of a shape
-abbrev pub codedOf : Shape → ℕ
-codedOf L = (L .rows + L .parity) * 4
-
--- the number of coded bits at a kind and rate
-unfoldable pub codedBits : ℕ → ℕ → ℕ
-codedBits kind rate = codedOf (shapeOf kind rate)
 
 -- the source bit that coded bit i is, and the coded bit that source bit k is
 unfoldable pub source : ℕ → ℕ → ℕ → ℕ

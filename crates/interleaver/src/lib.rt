@@ -2,36 +2,22 @@
 // bits and then the kept parity bits, each coded bit is, and a block's bits, four to a row, put into that order and back.
 //
 // Internal: nothing here is a public entry. A function with a `requires` is called only where its caller has shown it.
+use interleaver_shape::Shape;
 ghost use mathlib.Core.Path.{_≡_};
 ghost use mathlib.Core.Bool.{false, cond};
 ghost use Prim.Native.Nat.{_+_, _*_, _/_, _%_, _<_, _≤_, min};
 ghost use lib.ListN.{length, getD};
 ghost use Rattle.bits.specs.Lists.{written};
-ghost use Rattle.card.specs.Modes.{blockBytes, Defined};
+ghost use Rattle.card.specs.Modes.{Defined};
 ghost use Rattle.interleaver.specs.Rows.{passes, movedRow};
-ghost use Rattle.interleaver.specs.Shapes.{shapeOf};
-ghost use Rattle.interleaver.specs.Loops.Bounds.{Sound, Small, Near, Paired};
-ghost use Rattle.interleaver.specs.Source.{isParity, dataPlace, column, codedBits, codedAt};
+ghost use Rattle.interleaver_shape.specs.Shapes.{codedBits};
+ghost use Rattle.interleaver_shape.specs.Loops.Bounds.{Near, Paired};
+ghost use Rattle.interleaver.specs.Source.{isParity, dataPlace, column, codedAt};
 ghost use Rattle.interleaver.specs.Loops.RowOrder.{rowPlace, rowSource};
 ghost use Rattle.interleaver.specs.Loops.Walks.{OnPass, parityPlace, untilParity, Stands, Runs};
 ghost use Rattle.bits.specs.Loops.Words.{stored};
 ghost use Rattle.interleaver.specs.Loops.Moving.{Within, Moving, Continuous, BeforePass, DataRun, PairRun};
 ghost use Rattle.interleaver.specs.Loops.Stores.{target, origin, carried};
-
-// The shape of the interleaver at one kind and rate (000, Table 11).
-pub struct Shape {
-    // data rows, and parity rows
-    pub rows: usize,
-    pub parity: usize,
-    // from row to row in a pass, and what moves a parity row up
-    pub step: usize,
-    pub offset: usize,
-    // data nibbles to a parity nibble, and how many of them come before it
-    pub group: usize,
-    pub lead: usize,
-    // parity rows are read on without a restart
-    pub continuous: bool,
-}
 
 // Where the joined stream stands: its next nibble, how many data nibbles come before its next parity nibble, and that nibble's row.
 struct Stand {
@@ -45,42 +31,6 @@ struct Run {
     nibble: usize,
     row: usize,
     pass: usize,
-}
-
-// Table 11 of 000: kinds 0 to 4 at rate 1/2, then kind 4 at rate 16/18.
-const OFFSETS: [usize; 6] = [16, 72, 136, 264, 520, 60];
-
-const STEPS: [usize; 6] = [4, 16, 16, 16, 16, 11];
-
-// By rate: 1 + 1 nibbles, and 3 + 1 + 5.
-const GROUPS: [usize; 2] = [1, 8];
-
-const LEADS: [usize; 2] = [1, 3];
-
-// The number of data rows: four bits make a row, so a byte makes two.
-pub fn data_rows(kind: usize) -> usize
-    requires { ⌜ kind < 5 ⌝ }
-    ensures { λ r. ⌜ r ≡ blockBytes kind * 2 ⌝ }
-{
-    card::block_bytes(kind) * 2
-}
-
-// The shape of a kind and rate.
-fn shape_of(kind: usize, rate: usize) -> Shape
-    requires { ⌜ Defined kind rate ⌝ }
-    ensures { λ r. ⌜ (r ≡ shapeOf kind rate) × (Sound r) × (Small r) × (Near r) × (r .continuous ≡ false → Paired r) ⌝ }
-{
-    let rows = data_rows(kind);
-    let group = GROUPS[rate];
-    Shape {
-        rows,
-        parity: rows / group,
-        step: STEPS[kind + rate],
-        offset: OFFSETS[kind + rate],
-        group,
-        lead: LEADS[rate],
-        continuous: rate == 1,
-    }
 }
 
 // A row moved up, modulo the number of rows.
@@ -264,7 +214,7 @@ fn move_bits(kind: usize, rate: usize, back: bool, from: &[u8], to: &mut [u8])
     ensures { λ _. ⌜ now (to .exit) ≡ stored (codedBits kind rate) (target back (rowPlace kind rate))
         (λ i. getD (now (from .entry)) (origin back (rowPlace kind rate) i) 0) (now (to .entry)) ⌝ }
 {
-    let l = shape_of(kind, rate);
+    let l = interleaver_shape::shape_of(kind, rate);
     if l.continuous {
         move_groups(l, back, from, to);
     } else if back {
@@ -272,24 +222,6 @@ fn move_bits(kind: usize, rate: usize, back: bool, from: &[u8], to: &mut [u8])
     } else {
         move_pairs(l, false, from, to);
     }
-}
-
-// The number of coded bits.
-pub fn coded_bits(kind: usize, rate: usize) -> usize
-    requires { ⌜ Defined kind rate ⌝ }
-    ensures { λ r. ⌜ r ≡ codedBits kind rate ⌝ }
-{
-    let l = shape_of(kind, rate);
-    (l.rows + l.parity) * 4
-}
-
-// The number of parity rows.
-pub fn parity_rows(kind: usize, rate: usize) -> usize
-    requires { ⌜ Defined kind rate ⌝ }
-    ensures { λ r. ⌜ r ≡ shapeOf kind rate .parity ⌝ }
-{
-    let l = shape_of(kind, rate);
-    l.parity
 }
 
 // The coded bits of a block's rows, at the start of `out`.

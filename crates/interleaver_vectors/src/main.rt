@@ -3,7 +3,7 @@ ghost use mathlib.Core.Path.{_≡_};
 ghost use Prim.Native.Nat.{_+_, _*_, _<_, _≤_};
 ghost use lib.ListN.{length};
 ghost use Rattle.card.specs.Modes.{Defined};
-ghost use Rattle.interleaver.specs.Source.{codedBits};
+ghost use Rattle.interleaver_shape.specs.Shapes.{codedBits};
 
 // Room for the coded bits of any block.
 fn room() -> [u8; 8320]
@@ -33,9 +33,9 @@ fn number(s: &mut [u8], first: usize, height: usize, unit: usize)
 fn shuffle(kind: usize, rate: usize, unit: usize, out: &mut [u8])
     requires { ⌜ (Defined kind rate) × (0 < unit) × (codedBits kind rate ≤ length (now out)) ⌝ }
 {
-    let n = interleaver::coded_bits(kind, rate);
-    let data = interleaver::data_rows(kind);
-    let parity = interleaver::parity_rows(kind, rate);
+    let n = interleaver_shape::coded_bits(kind, rate);
+    let data = interleaver_shape::data_rows(kind);
+    let parity = interleaver_shape::parity_rows(kind, rate);
     let mut rows = room();
     number(&mut rows, 0, data, unit);
     number(&mut rows, data * 4, parity, unit);
@@ -64,7 +64,7 @@ fn print_layout(kind: usize, rate: usize)
     output::put_named(b"kind ", kind as u64);
     output::put_named(b" rate ", rate as u64);
     output::put(b"\n");
-    let n = interleaver::coded_bits(kind, rate);
+    let n = interleaver_shape::coded_bits(kind, rate);
     let mut high = room();
     let mut low = room();
     shuffle(kind, rate, 256, &mut high);

@@ -14,8 +14,8 @@ use Rattle.card.specs.Modes.{blockBytes, Defined}
 use Rattle.scrambler.specs.Scrambler.{scrambled, scramble}
 use Rattle.bits.proofs.BitLaws.{length-bytes}
 use Rattle.scrambler.proofs.ScramblerLaws.{length-scramble, bits-scramble}
-use Rattle.interleaver.specs.Source.{codedBits}
-use Rattle.interleaver.proofs.InterleaverLaws.{coded-le}
+use Rattle.interleaver_shape.specs.Shapes.{codedBits}
+use Rattle.interleaver_shape.proofs.ShapeLaws.{coded-le}
 use Rattle.fec.specs.Coding.{dataBits, codedBit}
 use Rattle.fec.specs.Recovery.{dataBit, recovered}
 use Rattle.fec.proofs.CodingLaws.{coded-ext}

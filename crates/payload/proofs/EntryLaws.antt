@@ -20,7 +20,8 @@ use Rattle.card.specs.Gate.{gate}
 use Rattle.card.proofs.GateLaws.{gate-refuses, gate-passes}
 use Rattle.scrambler.specs.Scrambler.{scrambled, scramble}
 use Rattle.scrambler.proofs.ScramblerLaws.{scramble-bytes}
-use Rattle.interleaver.specs.Source.{codedBits, codedAt}
+use Rattle.interleaver_shape.specs.Shapes.{codedBits}
+use Rattle.interleaver.specs.Source.{codedAt}
 use Rattle.interleaver.proofs.InterleaverLaws.{coded-lt}
 use Rattle.fec.specs.Recovery.{dataBit, firstUndecided, recoverRows, recovered}
 use Rattle.fec.proofs.CodingLaws.{coded-count}

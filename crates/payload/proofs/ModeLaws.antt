@@ -6,8 +6,8 @@ use Rattle.bits.proofs.RangeLaws.{agree}
 use Rattle.card.specs.declared.Card.{Card}
 use Rattle.card.specs.Modes.{blockBytes, Defined}
 use Rattle.card.specs.Gate.{Served}
-use Rattle.interleaver.specs.Source.{codedBits}
-use Rattle.interleaver.proofs.InterleaverLaws.{coded-half, coded-high, coded-le}
+use Rattle.interleaver_shape.specs.Shapes.{codedBits}
+use Rattle.interleaver_shape.proofs.ShapeLaws.{coded-half, coded-high, coded-le}
 use Rattle.payload_layout.specs.Layouts.{items, mostItems, Laid}
 use Rattle.payload_layout.proofs.LayoutLaws.{layout-coded, layout-laid}
 use Rattle.payload_layout.proofs.ModeLaws.{codedCount, mode-pad, mode-items}

@@ -20,7 +20,7 @@ use Rattle.card.specs.Gate.{Served}
 use Rattle.card.proofs.GateLaws.{gate-served}
 use Rattle.scrambler.specs.Scrambler.{scrambled}
 use Rattle.scrambler.proofs.ScramblerLaws.{scrambled-at, scrambled-twice, block-binary}
-use Rattle.interleaver.specs.Source.{codedBits}
+use Rattle.interleaver_shape.specs.Shapes.{codedBits}
 use Rattle.fec.specs.Coding.{dataBits, codedBit}
 use Rattle.fec.specs.Recovery.{dataBit, firstUndecided, disagreeing, recoverRows}
 use Rattle.bits.proofs.ListLaws.{take-written}

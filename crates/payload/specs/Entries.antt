@@ -14,7 +14,7 @@ use Rattle.card.specs.Card.{cardOf}
 use Rattle.card.specs.Modes.{blockBytes}
 use Rattle.card.specs.Gate.{gateRows}
 use Rattle.scrambler.specs.Scrambler.{scrambled}
-use Rattle.interleaver.specs.Source.{codedBits}
+use Rattle.interleaver_shape.specs.Shapes.{codedBits}
 use Rattle.fec.specs.Coding.{codedBit}
 use Rattle.fec.specs.Recovery.{dataBit, recoverRows}
 use Rattle.votes.specs.Votes.{decided}

@@ -22,7 +22,7 @@ fn block_layout(c: Card) -> Layout
     requires { ⌜ Served 1 4 c ⌝ }
     ensures { λ l. ⌜ l ≡ blockLayout c ⌝ }
 {
-    let coded = interleaver::coded_bits(c.kind as usize, c.rate as usize);
+    let coded = interleaver_shape::coded_bits(c.kind as usize, c.rate as usize);
     payload_layout::layout_of(c.band as usize, c.modulation as usize, coded)
 }
 

@@ -1,6 +1,6 @@
 -- `fec::encode` meets its contract: each array has room for the rows. Assumes nothing.
 use native.Mathlib.Omega.{arith}
-use Rattle.interleaver.proofs.InterleaverLaws.{coded-le}
+use Rattle.interleaver_shape.proofs.ShapeLaws.{coded-le}
 use Rattle.fec.proofs.CodingLaws.{frame-coded, short-coded}
 use borrow.Author.Needs.{needs}
 use Rattle.fec.proofs.encode.Statement.{statement}

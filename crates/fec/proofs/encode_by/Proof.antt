@@ -6,7 +6,7 @@ use lib.ListN.{length}
 use lib.Seq.{length-take-le}
 use borrow.Author.Needs.{needs}
 use Rattle.bits.proofs.ListLaws.{length-written}
-use Rattle.interleaver.specs.Source.{codedBits}
+use Rattle.interleaver_shape.specs.Shapes.{codedBits}
 use Rattle.fec.proofs.CodingLaws.{kept-most}
 use Rattle.fec.proofs.RowLaws.{coded-written}
 use Rattle.fec.proofs.encode_by.Statement.{statement}

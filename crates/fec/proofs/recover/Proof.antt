@@ -7,7 +7,7 @@ use lib.ListN.{length}
 use Rattle.bits.specs.Lists.{firstAbove}
 use Rattle.refusal.specs.Report.{refused}
 use Rattle.refusal.specs.Outcome.{Outcome}
-use Rattle.interleaver.proofs.InterleaverLaws.{coded-le}
+use Rattle.interleaver_shape.proofs.ShapeLaws.{coded-le}
 use Rattle.fec.specs.Recovery.{firstUndecided}
 use Rattle.fec.proofs.CodingLaws.{frame-coded, short-coded}
 use Rattle.fec.proofs.RecoveryLaws.{refused-majority}

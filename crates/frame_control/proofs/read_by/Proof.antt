@@ -7,7 +7,7 @@ use lib.ListN.{length}
 use borrow.Author.Tests.{lt-ltb, le-ltb, eq-eqb, ne-eqb}
 use Rattle.bits.proofs.ListLaws.{length-tabulate}
 use Rattle.card.proofs.ModeLaws.{defined-half}
-use Rattle.interleaver.proofs.InterleaverLaws.{coded-half}
+use Rattle.interleaver_shape.proofs.ShapeLaws.{coded-half}
 use Rattle.frame_control.specs.Entries.{readBy}
 use Rattle.frame_control.proofs.EntryLaws.{read-decided}
 use borrow.Author.Needs.{needs}

@@ -2,7 +2,7 @@
 use native.Mathlib.Omega.{arith}
 use borrow.Author.Tests.{lt-ltb, le-ltb, eq-eqb, ne-eqb}
 use Rattle.card.proofs.ModeLaws.{defined-half}
-use Rattle.interleaver.proofs.InterleaverLaws.{coded-half}
+use Rattle.interleaver_shape.proofs.ShapeLaws.{coded-half}
 use Rattle.diversity.specs.Lanes.{carrierCount, itemCount}
 use Rattle.frame_control.specs.Entries.{sendBy}
 use Rattle.frame_control.proofs.EntryLaws.{items-sent}

@@ -5,7 +5,8 @@ use denote.Ref.{now}
 use lib.ListN.{getD}
 use Rattle.bits.proofs.ListLaws.{written-ext}
 use Rattle.bits.proofs.PermutationLaws.{inverse}
-use Rattle.interleaver.specs.Source.{codedBits, codedAt}
+use Rattle.interleaver_shape.specs.Shapes.{codedBits}
+use Rattle.interleaver.specs.Source.{codedAt}
 use Rattle.interleaver.specs.Loops.RowOrder.{rowPlace, rowSource}
 use Rattle.interleaver.proofs.InterleaverLaws.{row-permutes, row-inverse}
 use Rattle.bits.proofs.StoreLaws.{stored-permuted}

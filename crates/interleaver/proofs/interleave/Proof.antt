@@ -2,7 +2,7 @@
 use mathlib.Core.Path.{_∙_}
 use denote.Ref.{now}
 use lib.ListN.{getD}
-use Rattle.interleaver.specs.Source.{codedBits}
+use Rattle.interleaver_shape.specs.Shapes.{codedBits}
 use Rattle.interleaver.specs.Loops.RowOrder.{rowPlace}
 use Rattle.bits.proofs.StoreLaws.{stored-written}
 use borrow.Author.Needs.{needs}

@@ -3,7 +3,7 @@ use mathlib.Core.Path.{refl, sym, _∙_}
 use native.Mathlib.Omega.{arith}
 use denote.Ref.{now}
 use Rattle.interleaver.specs.Loops.Moving.{Moving}
-use Rattle.interleaver.proofs.ShapeLaws.{coded-is}
+use Rattle.interleaver_shape.proofs.ShapeLaws.{coded-is}
 use Rattle.interleaver.proofs.NibbleLaws.{carried-block}
 use borrow.Author.Needs.{needs}
 use Rattle.interleaver.proofs.move_bits.Statement.{statement}

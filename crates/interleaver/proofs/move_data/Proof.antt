@@ -9,7 +9,8 @@ use denote.Ref.{now}
 use lib.ListN.{length}
 use Rattle.bits.proofs.NumberLaws.{lt-cases}
 use Rattle.interleaver.specs.Rows.{passRow}
-use Rattle.interleaver.specs.Source.{dataPlace, isParity, codedOf}
+use Rattle.interleaver_shape.specs.Shapes.{codedOf}
+use Rattle.interleaver.specs.Source.{dataPlace, isParity}
 use Rattle.interleaver.specs.Loops.RowOrder.{rowOf}
 use Rattle.interleaver.specs.Loops.Stores.{carried}
 use Rattle.interleaver.specs.Loops.Walks.{OnPass, parityPlace, untilParity}

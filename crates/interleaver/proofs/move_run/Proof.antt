@@ -5,7 +5,7 @@ use Prim.Native.Nat.{ℕ, _+_, _-_, _*_, _<_, _≤_}
 use native.Mathlib.Omega.{arith}
 use denote.Ref.{now}
 use lib.ListN.{length}
-use Rattle.interleaver.specs.Source.{codedOf}
+use Rattle.interleaver_shape.specs.Shapes.{codedOf}
 use Rattle.interleaver.specs.Loops.RowOrder.{rowOf}
 use Rattle.interleaver.specs.Loops.Stores.{carried}
 use Rattle.interleaver.specs.Loops.Walks.{Runs}

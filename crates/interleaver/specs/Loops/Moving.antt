@@ -4,12 +4,13 @@ use mathlib.Core.Bool.{true}
 use mathlib.Core.List.{List}
 use Prim.Native.Nat.{ℕ, _+_, _*_, _<_, _≤_}
 use lib.ListN.{length}
-use Rattle.interleaver.specs.declared.Shape.{Shape}
+use Rattle.interleaver_shape.specs.declared.Shape.{Shape}
 use Rattle.interleaver.specs.declared.Stand.{Stand}
 use Rattle.interleaver.specs.declared.Run.{Run}
 use Rattle.interleaver.specs.Rows.{passes, movedRow}
-use Rattle.interleaver.specs.Source.{dataPlace, codedOf}
-use Rattle.interleaver.specs.Loops.Bounds.{Sound, Small, Near, Paired}
+use Rattle.interleaver_shape.specs.Shapes.{codedOf}
+use Rattle.interleaver.specs.Source.{dataPlace}
+use Rattle.interleaver_shape.specs.Loops.Bounds.{Sound, Small, Near, Paired}
 use Rattle.interleaver.specs.Loops.Walks.{OnPass, untilParity, Stands, Runs}
 
 -- Nibble n of the coded bits and the row from `first` on are within both buffers.

@@ -3,8 +3,8 @@
 use mathlib.Core.Bool.{cond}
 use Prim.Native.Nat.{ℕ, _+_, _-_, _*_, _/_, _%_}
 use lib.Dec.{ltb}
-use Rattle.interleaver.specs.declared.Shape.{Shape}
-use Rattle.interleaver.specs.Shapes.{shapeOf}
+use Rattle.interleaver_shape.specs.declared.Shape.{Shape}
+use Rattle.interleaver_shape.specs.Shapes.{shapeOf}
 use Rattle.interleaver.specs.Source.{dataRow, parityRow, groupOf, isParity, dataPlace, column}
 
 -- the row that nibble n is, where all are numbered on

@@ -4,7 +4,7 @@ use mathlib.Core.List.{List}
 use Prim.Native.Nat.{ℕ, _+_, _-_, _*_}
 use lib.ListN.{getD}
 use Rattle.bits.specs.Loops.Words.{stored}
-use Rattle.interleaver.specs.declared.Shape.{Shape}
+use Rattle.interleaver_shape.specs.declared.Shape.{Shape}
 use Rattle.interleaver.specs.Loops.RowOrder.{placeOf}
 
 -- where the i-th bit of an order s is stored, and where it is read: on the way out bit i is read at s i, on the way back bit s i at i

@@ -4,7 +4,7 @@ use mathlib.Core.Bool.{cond}
 use Prim.Native.Nat.{ℕ, _+_, _-_, _*_, _<_, _≤_}
 use lib.Dec.{ltb}
 use lib.ListN.{length}
-use Rattle.interleaver.specs.declared.Shape.{Shape}
+use Rattle.interleaver_shape.specs.declared.Shape.{Shape}
 use Rattle.interleaver.specs.declared.Stand.{Stand}
 use Rattle.interleaver.specs.declared.Run.{Run}
 use Rattle.interleaver.specs.Rows.{passes, continuousRow}

@@ -1,6 +1,6 @@
 -- `interleaver_vectors::print_layout` meets its contract. Assumes nothing.
 use native.Mathlib.Omega.{arith}
-use Rattle.interleaver.proofs.InterleaverLaws.{coded-le}
+use Rattle.interleaver_shape.proofs.ShapeLaws.{coded-le}
 use borrow.Author.Needs.{needs}
 use Rattle.interleaver_vectors.proofs.print_layout.Statement.{statement}
 use Rattle.interleaver_vectors.proofs.print_layout.Tie as tie

@@ -4,8 +4,8 @@ use Prim.Native.Nat.{_+_, _*_, _≤_}
 use native.Mathlib.Omega.{arith}
 use lib.ListN.{length}
 use lib.Seq.{length-take-le}
-use Rattle.interleaver.specs.Source.{codedBits}
-use Rattle.interleaver.proofs.InterleaverLaws.{coded-le}
+use Rattle.interleaver_shape.specs.Shapes.{codedBits}
+use Rattle.interleaver_shape.proofs.ShapeLaws.{coded-le}
 use borrow.Author.Needs.{needs}
 use Rattle.interleaver_vectors.proofs.shuffle.Statement.{statement}
 use Rattle.interleaver_vectors.proofs.shuffle.Tie as tie

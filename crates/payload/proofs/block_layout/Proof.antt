@@ -2,7 +2,7 @@
 use mathlib.Core.Path.{ap, _∙_}
 use Prim.Native.Nat.{ℕ}
 use native.Mathlib.Omega.{arith}
-use Rattle.interleaver.proofs.InterleaverLaws.{coded-le}
+use Rattle.interleaver_shape.proofs.ShapeLaws.{coded-le}
 use Rattle.payload_layout.specs.Layouts.{layoutOf}
 use borrow.Author.Needs.{needs}
 use Rattle.payload.proofs.block_layout.Statement.{statement}

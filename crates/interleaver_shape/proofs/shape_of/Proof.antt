@@ -1,15 +1,15 @@
--- `interleaver::shape_of` meets its contract. Assumes nothing.
+-- `interleaver_shape::shape_of` meets its contract. Assumes nothing.
 use mathlib.Core.Path.{_≡_, ap, subst, sym}
 use Prim.Native.Nat.{_+_, _/_}
 use lib.Dec.{eqb}
 use lib.ListN.{getD}
-use Rattle.interleaver.specs.declared.Shape.{Shape}
-use Rattle.interleaver.specs.Shapes.{shapeOf, offsets, steps, groups, leads}
-use Rattle.interleaver.specs.Loops.Bounds.{Sound, Small, Near, Paired}
-use Rattle.interleaver.proofs.ShapeLaws.{group-in, sound-of, small-of, near-of, paired-of}
+use Rattle.interleaver_shape.specs.declared.Shape.{Shape}
+use Rattle.interleaver_shape.specs.Shapes.{shapeOf, offsets, steps, groups, leads}
+use Rattle.interleaver_shape.specs.Loops.Bounds.{Sound, Small, Near, Paired}
+use Rattle.interleaver_shape.proofs.ShapeLaws.{group-in, sound-of, small-of, near-of, paired-of}
 use borrow.Author.Needs.{needs}
-use Rattle.interleaver.proofs.shape_of.Statement.{statement}
-use Rattle.interleaver.proofs.shape_of.Tie as tie
+use Rattle.interleaver_shape.proofs.shape_of.Statement.{statement}
+use Rattle.interleaver_shape.proofs.shape_of.Tie as tie
 
 data-rows-requires : tie.Need-data-rows-requires
 data-rows-requires c κs = search needs

@@ -1,19 +1,19 @@
--- The shapes of the table are sound and small. Assumes nothing.
-use mathlib.Core.Path.{_≡_, ap}
+-- The shapes of the table are sound and small, and how many coded bits they have. Assumes nothing.
+use mathlib.Core.Path.{_≡_, refl, ap}
 use mathlib.Core.Bool.{false}
 use Prim.Native.Nat.{ℕ, zero, suc, _+_, _*_, _/_, _<_, _≤_}
+use native.Mathlib.Nat.{le-of-suc-le-suc}
 use native.Mathlib.Omega.{arith}
 use lib.Dec.{T, eqb, ltb, ltb→lt, leb, leb→le}
 use lib.ListN.{getD}
 use borrow.Author.Tests.{eqb-true, eqb-false}
 use Rattle.bits.specs.Ranges.{allBelow}
 use Rattle.bits.proofs.NumberLaws.{lt-cases}
-use Rattle.bits.proofs.RangeLaws.{at-each, agree₂, under, under₂}
+use Rattle.bits.proofs.RangeLaws.{at-each, agree, agree₂, under, under₂}
 use Rattle.card.specs.Modes.{blockBytes, Defined}
-use Rattle.interleaver.specs.declared.Shape.{Shape}
-use Rattle.interleaver.specs.Source.{codedOf, codedBits}
-use Rattle.interleaver.specs.Shapes.{offsets, steps, groups, leads, shapeOf}
-use Rattle.interleaver.specs.Loops.Bounds.{Sound, Small, Near, Paired}
+use Rattle.interleaver_shape.specs.declared.Shape.{Shape}
+use Rattle.interleaver_shape.specs.Shapes.{codedOf, codedBits, offsets, steps, groups, leads, shapeOf}
+use Rattle.interleaver_shape.specs.Loops.Bounds.{Sound, Small, Near, Paired}
 
 pub rows-in : (kind : ℕ) → kind < 5 → blockBytes kind * 2 < 65536
 rows-in = under 5 65536 (λ k. blockBytes k * 2) tt
@@ -71,3 +71,18 @@ paired-of kind rate D t =
 pub coded-is : (kind rate : ℕ) (L : Shape) → L ≡ shapeOf kind rate → codedOf L ≡ codedBits kind rate
 unfolding codedBits
 coded-is kind rate L e = ap codedOf e
+
+-- at rate 1/2 a byte of the block makes 16 coded bits; at 16/18 the 520 bytes make 4,680
+pub coded-half : (kind : ℕ) → kind < 5 → codedBits kind 0 ≡ blockBytes kind * 16
+unfolding codedBits
+coded-half kind h = agree 5 (λ k. (blockBytes k * 2 + blockBytes k * 2 / 1) * 4) (λ k. blockBytes k * 16) tt kind h
+
+pub coded-high : codedBits 4 1 ≡ 4680
+unfolding codedBits
+coded-high = refl
+
+pub coded-le : (kind rate : ℕ) → Defined kind rate → codedBits kind rate ≤ 8320
+unfolding codedBits
+coded-le kind rate D =
+    le-of-suc-le-suc
+    (under₂ 5 2 8321 (λ k r. (blockBytes k * 2 + blockBytes k * 2 / getD groups r 0) * 4) tt kind rate (D .kind-lt) (D .rate-lt))

@@ -2,7 +2,7 @@
 use mathlib.Core.Path.{_≡_}
 use mathlib.Core.Bool.{true, false}
 use Prim.Native.Nat.{ℕ, zero, _+_, _*_, _<_, _≤_}
-use Rattle.interleaver.specs.declared.Shape.{Shape}
+use Rattle.interleaver_shape.specs.declared.Shape.{Shape}
 
 -- A shape whose orders have each row once: a step that is read on without a restart has an inverse modulo the number of rows.
 pub record Sound (L : Shape) : Type 0 where

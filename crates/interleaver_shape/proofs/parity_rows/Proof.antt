@@ -1,9 +1,9 @@
--- `interleaver::parity_rows` meets its contract. Assumes nothing.
+-- `interleaver_shape::parity_rows` meets its contract. Assumes nothing.
 use mathlib.Core.Path.{ap}
-use Rattle.interleaver.specs.declared.Shape.{Shape}
+use Rattle.interleaver_shape.specs.declared.Shape.{Shape}
 use borrow.Author.Needs.{needs}
-use Rattle.interleaver.proofs.parity_rows.Statement.{statement}
-use Rattle.interleaver.proofs.parity_rows.Tie as tie
+use Rattle.interleaver_shape.proofs.parity_rows.Statement.{statement}
+use Rattle.interleaver_shape.proofs.parity_rows.Tie as tie
 
 shape-of-requires : tie.Need-shape-of-requires
 shape-of-requires c κs = search needs

@@ -1,10 +1,10 @@
--- `interleaver::coded_bits` meets its contract. Assumes nothing.
+-- `interleaver_shape::coded_bits` meets its contract. Assumes nothing.
 use mathlib.Core.Path.{ap}
 use native.Mathlib.Omega.{arith}
-use Rattle.interleaver.specs.Source.{codedOf, codedBits}
+use Rattle.interleaver_shape.specs.Shapes.{codedOf, codedBits}
 use borrow.Author.Needs.{needs}
-use Rattle.interleaver.proofs.coded_bits.Statement.{statement}
-use Rattle.interleaver.proofs.coded_bits.Tie as tie
+use Rattle.interleaver_shape.proofs.coded_bits.Statement.{statement}
+use Rattle.interleaver_shape.proofs.coded_bits.Tie as tie
 
 shape-of-requires : tie.Need-shape-of-requires
 shape-of-requires c κs = search needs

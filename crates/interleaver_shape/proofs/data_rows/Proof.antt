@@ -1,11 +1,11 @@
--- `interleaver::data_rows` meets its contract. Assumes nothing.
+-- `interleaver_shape::data_rows` meets its contract. Assumes nothing.
 use mathlib.Core.Path.{ap}
 use Prim.Native.Nat.{ℕ, _*_}
 use native.Mathlib.Omega.{arith}
-use Rattle.interleaver.proofs.ShapeLaws.{rows-in}
+use Rattle.interleaver_shape.proofs.ShapeLaws.{rows-in}
 use borrow.Author.Needs.{needs}
-use Rattle.interleaver.proofs.data_rows.Statement.{statement}
-use Rattle.interleaver.proofs.data_rows.Tie as tie
+use Rattle.interleaver_shape.proofs.data_rows.Statement.{statement}
+use Rattle.interleaver_shape.proofs.data_rows.Tie as tie
 
 block-bytes-requires : tie.Need-block-bytes-requires
 block-bytes-requires c κs = search needs

@@ -5,7 +5,7 @@ use Prim.Native.Nat.{ℕ, _+_, _*_, _/_}
 use lib.Dec.{eqb}
 use lib.ListN.{getD}
 use Rattle.card.specs.Modes.{blockBytes}
-use Rattle.interleaver.specs.declared.Shape.{Shape}
+use Rattle.interleaver_shape.specs.declared.Shape.{Shape}
 
 -- Table 11, its column of offsets and its column of steps. Row kind + rate is that of kind and rate: five kinds at rate 1/2, then kind 4 at 16/18.
 abbrev pub offsets : List ℕ
@@ -33,3 +33,11 @@ shapeOf kind rate =
       lead = getD leads rate 0;
       continuous = eqb rate 1;
     }
+
+-- the number of coded bits of a shape
+abbrev pub codedOf : Shape → ℕ
+codedOf L = (L .rows + L .parity) * 4
+
+-- the number of coded bits at a kind and rate
+unfoldable pub codedBits : ℕ → ℕ → ℕ
+codedBits kind rate = codedOf (shapeOf kind rate)

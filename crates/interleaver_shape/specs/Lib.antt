@@ -1,0 +1,3 @@
+-- What the contracts and the theorems of `interleaver_shape` cite. Assumes nothing.
+pub mod Shapes
+pub mod Loops

@@ -1,0 +1,2 @@
+-- What only the contracts of loops and the laws cite. Assumes nothing.
+pub mod Bounds
