@@ -1,33 +1,26 @@
--- The outcomes of `map_into` and `slice_into` by the tests that lead to them. Assumes nothing.
-use mathlib.Core.List.{List, _++_}
-use mathlib.Core.Path.{_≡_, refl, sym, ap, _∙_}
-use Prim.Native.Nat.{ℕ, zero, suc, _≤_, _<_}
-use native.Mathlib.Omega.{arith}
+-- The outcomes of `map_into` by the tests that lead to them, and an outcome's two parts. Assumes nothing.
+use mathlib.Core.List.{List}
+use mathlib.Core.Path.{_≡_, sym, ap, _∙_}
+use Prim.Native.Nat.{ℕ, _≤_, _<_}
 use borrow.Author.Tests.{lt-ltb, le-ltb, eq-eqb, ne-eqb}
 use lib.Ieee.{Float}
-use lib.ListN.{length, getD, drop, set}
+use lib.ListN.{length, getD, set}
 use Rattle.bits.specs.Lists.{firstAbove}
 use Rattle.bits.proofs.ListLaws.{set-two}
 use Rattle.refusal.specs.declared.Refusal.{Refusal}
 use Rattle.refusal.specs.declared.Refusal.the-variants.{Mode, Length, Room, Item}
 use Rattle.refusal.specs.Report.{done, refusal}
 use Rattle.refusal.specs.Outcome.{Outcome}
-use Rattle.refusal.proofs.OutcomeLaws.{refused-as}
 use Rattle.card.specs.Modes.{carrierBits}
 use Rattle.constellation.specs.declared.Point.{Point}
-use Rattle.constellation.specs.declared.Received.{Received}
-use Rattle.constellation.specs.declared.Received.the-variants.{Heard, Lost}
-use Rattle.constellation.specs.declared.Sliced.{Sliced}
-use Rattle.constellation.specs.declared.Sliced.the-variants.{Refused}
 use Rattle.constellation.specs.Mapping.{pointOf}
-use Rattle.constellation.specs.Slicing.{itemsOf, sliced, given, slicing}
-use Rattle.constellation.specs.Entries.{withPoint, mapOutcome, sliceOutcome}
+use Rattle.constellation.specs.Entries.{withPoint, mapOutcome}
 
 -- a refusal that keeps the lent memory, and a success
-abbrev kept : {B : Type 0} → Refusal → B → Outcome ℕ B
+abbrev pub kept : {B : Type 0} → Refusal → B → Outcome ℕ B
 kept r out = record { report = refusal r; out = out }
 
-abbrev made : {B : Type 0} → ℕ → B → Outcome ℕ B
+abbrev pub made : {B : Type 0} → ℕ → B → Outcome ℕ B
 made n out = record { report = done n; out = out }
 
 -- an outcome's two parts, as a contract asks them
@@ -72,41 +65,3 @@ module _ (m : ℕ) (bits : List ℕ) (out : List Float) where
           le-ltb (firstAbove 1 bits) (length bits) h,
         )
         (ap (λ (q : Point). made 2 (withPoint q out)) (sym e) ∙ ap (made 2) (sym (set-two (p .i) (p .q) out r)))
-
--- ---- slice_into
-
--- a carrier has as many items as its modulation has bits
-length-items : (m : ℕ) (r : Received) → m ≤ 2 → length (itemsOf m r) ≡ carrierBits m
-length-items zero Lost h = refl
-length-items zero (Heard i q) h = refl
-length-items (suc zero) Lost h = refl
-length-items (suc zero) (Heard i q) h = refl
-length-items (suc (suc zero)) Lost h = refl
-length-items (suc (suc zero)) (Heard i q) h = refl
-length-items (suc (suc (suc m))) r h = absurd (omega arith)
-
-given-items : (m : ℕ) (r : Received) → m ≤ 2 → (s : Sliced) → sliced s ≡ slicing m r → given (sliced s) ≡ itemsOf m r
-given-items m r h s e = ap given (simp (le-ltb 2 m h) at e)
-
--- a refusal gives no items
-pub refused-kept : (s : Sliced) (r : Refusal) (out : List ℕ) → s ≡ Refused r → out ≡ given (sliced s) ++ drop (length (given (sliced s))) out
-refused-kept s r out e = rw (e, refused-as given r .1)
-
-pub items-fit : (m : ℕ) (r : Received) → m ≤ 2 → {n k : ℕ} → n ≡ carrierBits m → n ≤ k → (s : Sliced) → sliced s ≡ slicing m r → length (given (sliced s)) ≤ k
-items-fit m r d e h s g = rw (given-items m r d s g, length-items m r d) (rw e at h)
-
-module _ (m : ℕ) (r : Received) (out : List ℕ) where
-  pub slice-mode : 2 < m → sliceOutcome m r out ≡ kept Mode out
-  unfolding sliceOutcome
-  slice-mode h = simp (lt-ltb 2 m h)
-
-  pub slice-room : m ≤ 2 → {n : ℕ} → n ≡ carrierBits m → length out < n → sliceOutcome m r out ≡ kept (Room n) out
-  unfolding sliceOutcome
-  slice-room d e h = rw e (simp (le-ltb 2 m d, lt-ltb (length out) (carrierBits m) (rw e at h)))
-
-  pub slice-done : m ≤ 2 → {n : ℕ} → n ≡ carrierBits m → n ≤ length out → (s : Sliced) → sliced s ≡ slicing m r
-      → sliceOutcome m r out ≡ made n (given (sliced s) ++ drop (length (given (sliced s))) out)
-  unfolding sliceOutcome
-  slice-done d e h s g =
-      rw (e, given-items m r d s g, length-items m r d)
-      (simp (le-ltb 2 m d, le-ltb (length out) (carrierBits m) (rw e at h)))

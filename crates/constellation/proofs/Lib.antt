@@ -1,8 +1,4 @@
 -- What the proofs of `constellation` share, and its theorems. Assumes nothing.
-mod DecisionLaws
-mod MappingLaws
+pub mod MappingLaws
 mod FactorLaws
-mod NearestLevel
-mod PaperWords
-pub mod RoundTrip
-mod EntryLaws
+pub mod EntryLaws

@@ -3,10 +3,10 @@
 // `map M D I Q`: the modulation, its bits from d0 on, and the bits of the two f64 coordinates. `slice M A B ITEMS`: the coordinates
 // `value(A)` and `value(B)`, and the items; `lost` stands in place of A and B for a lost carrier.
 use constellation::Mapped;
-use constellation::Received;
-use constellation::Sliced;
 use refusal::Answer;
 use refusal::Refusal;
+use slicing::Received;
+use slicing::Sliced;
 
 // The factors of QPSK and 16QAM, and 2f of 16QAM with its two neighbours.
 const QPSK_FACTOR: f64 = 6369051672525773.0 / 9007199254740992.0;
@@ -93,7 +93,7 @@ fn digits(modulation: u8, d0: u8, d1: u8, d2: u8, d3: u8) {
 }
 
 fn slicing(modulation: u8, received: Received) {
-    match constellation::slice(modulation, received) {
+    match slicing::slice(modulation, received) {
         Sliced::One(a) => digit(a),
         Sliced::Two(a, b) => digits(1, a, b, 0, 0),
         Sliced::Four(a, b, c, d) => digits(2, a, b, c, d),

@@ -9,8 +9,8 @@ use Rattle.bits.specs.Lists.{tabulate}
 use Rattle.bits.proofs.ListLaws.{getD-tabulate}
 use Rattle.bits.proofs.RangeLaws.{under, agree}
 use Rattle.refusal.proofs.OutcomeLaws.{kept}
-use Rattle.constellation.specs.Carriers.{throughPoints}
-use Rattle.constellation.proofs.RoundTrip.{list-back}
+use Rattle.slicing.specs.Carriers.{throughPoints}
+use Rattle.slicing.proofs.RoundTrip.{list-back}
 use Rattle.bands.specs.Bands.{bandCount, carriers, offsets}
 use Rattle.diversity.specs.Lanes.{carrierCount, itemCount}
 use Rattle.diversity.specs.Copies.{bandFewest, bandMost}
@@ -24,7 +24,8 @@ use Rattle.card.specs.Gate.{gateRows}
 use Rattle.card.specs.Text.{textRows, textCard}
 use Rattle.card.proofs.GateLaws.{gate-served}
 use Rattle.card.proofs.RoundTrip.{write-after-read, read-after-write}
-use Rattle.constellation.specs.Entries.{mapRows, mapOutcome, sliceRows, sliceOutcome}
+use Rattle.constellation.specs.Entries.{mapRows, mapOutcome}
+use Rattle.slicing.specs.Entries.{sliceRows, sliceOutcome}
 use Rattle.diversity.proofs.BandLaws.{band-range, fewest-of}
 use Rattle.payload_layout.specs.Items.{sentOn}
 use Rattle.payload_layout.proofs.ItemLaws.{sent-carries}

@@ -14,9 +14,10 @@ use Rattle.card.specs.Card.{cardOf}
 use Rattle.card.specs.Modes.{blockBytes}
 use Rattle.card.specs.Entries.{readCard, readFields, writeCard}
 use Rattle.card.specs.Text.{textCard}
-use Rattle.constellation.specs.declared.Received.{Received}
-use Rattle.constellation.specs.Carriers.{throughPoints}
-use Rattle.constellation.specs.Entries.{mapOutcome, sliceOutcome}
+use Rattle.constellation.specs.Entries.{mapOutcome}
+use Rattle.slicing.specs.declared.Received.{Received}
+use Rattle.slicing.specs.Carriers.{throughPoints}
+use Rattle.slicing.specs.Entries.{sliceOutcome}
 use Rattle.scrambler.specs.Scrambler.{scrambled}
 use Rattle.interleaver_shape.specs.Shapes.{codedBits}
 use Rattle.fec.specs.Coding.{codedBit}

@@ -9,7 +9,8 @@ use Rattle.refusal.specs.Outcome.{Outcome}
 use Rattle.card.specs.declared.Card.{Card}
 use Rattle.card.specs.Entries.{readFields, writeCard}
 use Rattle.card.specs.Text.{textCard}
-use Rattle.constellation.specs.Entries.{receivedOf, mapOutcome, sliceOutcome}
+use Rattle.constellation.specs.Entries.{mapOutcome}
+use Rattle.slicing.specs.Entries.{receivedOf, sliceOutcome}
 use Rattle.frame_control.specs.Entries.{send as frameSend, read as frameRead}
 use Rattle.payload.specs.Entries.{send as payloadSend, read as payloadRead}
 use Rattle.record.specs.declared.Record.{Record}

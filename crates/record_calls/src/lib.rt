@@ -42,7 +42,7 @@ fn slice(card: &[u8], out: &mut [u8]) -> Answer
     let q = record::float_of(record::word_at(card, 10));
     let modulation = record::byte_at(card, 0);
     let heard = record::byte_at(card, 1);
-    constellation::slice_into(modulation as u64, heard as u64, i, q, out)
+    slicing::slice_into(modulation as u64, heard as u64, i, q, out)
 }
 
 // A call whose output is bytes.

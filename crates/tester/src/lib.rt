@@ -10,7 +10,8 @@ use card::Card;
 use refusal::Answer;
 ghost use mathlib.Core.Path.{_≡_};
 ghost use Rattle.refusal.specs.Report.{answer};
-ghost use Rattle.constellation.specs.Entries.{mapOutcome, sliceOutcome, receivedOf};
+ghost use Rattle.constellation.specs.Entries.{mapOutcome};
+ghost use Rattle.slicing.specs.Entries.{receivedOf, sliceOutcome};
 ghost use Rattle.bands.specs.Units.{placeReport, subCarrierReport, placeOf, subCarrierOf};
 ghost use Rattle.card.specs.Entries.{readFields, writeCard};
 ghost use Rattle.card.specs.Text.{textCard};
@@ -102,7 +103,7 @@ pub extern "C" fn hplc_slice(
 ) -> u32
     ensures { λ n. ⌜ Returned (sliceOutcome modulation (receivedOf heard i q) (now (items .entry))) n (now (value .exit)) (now (items .exit)) ⌝ }
 {
-    let answer = constellation::slice_into(modulation, heard, i, q, items);
+    let answer = slicing::slice_into(modulation, heard, i, q, items);
     refusal::report(answer, value)
 }
 

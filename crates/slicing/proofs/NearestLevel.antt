@@ -12,10 +12,10 @@ use lib.Ieee.Fits.{up-pos, down-pos}
 use lib.Ieee.Positive.{first-pos}
 use Rattle.bits.proofs.BoolLaws.{test-cases}
 use Rattle.bits.proofs.NumberLaws.{below-four}
 use Rattle.constellation.specs.Factors.{factorOf}
-use Rattle.constellation.specs.Slicing.{level, lost, erasureWidth, lower, upper, read2, reading2, reading4}
-use Rattle.constellation.specs.Distances.{scaled, apart, distance, negative2, negative4, size4}
-use Rattle.constellation.proofs.DecisionLaws.{Size, width-size, le-not-lt}
+use Rattle.slicing.specs.Slicing.{level, lost, erasureWidth, lower, upper, read2, reading2, reading4}
+use Rattle.slicing.specs.Distances.{scaled, apart, distance, negative2, negative4, size4}
+use Rattle.slicing.proofs.DecisionLaws.{Size, width-size, le-not-lt}
 
 -- ---- a size X and the unit Y
 

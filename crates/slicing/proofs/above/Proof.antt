@@ -1,7 +1,7 @@
--- `constellation::above` meets its contract: the quotient 1.0 / 0.0 is the infinity. Assumes nothing.
+-- `slicing::above` meets its contract: the quotient 1.0 / 0.0 is the infinity. Assumes nothing.
 use lib.Ieee.{ofBits, div}
-use Rattle.constellation.proofs.above.Statement.{statement}
-use Rattle.constellation.proofs.above.Tie as tie
+use Rattle.slicing.proofs.above.Statement.{statement}
+use Rattle.slicing.proofs.above.Tie as tie
 
 returns : tie.Need-returns
 unfolding ofBits div

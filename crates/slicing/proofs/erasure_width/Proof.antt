@@ -1,10 +1,10 @@
--- `constellation::erasure_width` meets its contract. Assumes nothing.
+-- `slicing::erasure_width` meets its contract. Assumes nothing.
 use borrow.Author.Needs.{needs}
 use mathlib.Core.Path.{ap}
 use lib.Ieee.{Float, binary64, ofBits, mul}
-use Rattle.constellation.specs.Slicing.{erasureFraction}
-use Rattle.constellation.proofs.erasure_width.Statement.{statement}
-use Rattle.constellation.proofs.erasure_width.Tie as tie
+use Rattle.slicing.specs.Slicing.{erasureFraction}
+use Rattle.slicing.proofs.erasure_width.Statement.{statement}
+use Rattle.slicing.proofs.erasure_width.Tie as tie
 
 factor-of-requires : tie.Need-factor-of-requires
 factor-of-requires c κs = search needs

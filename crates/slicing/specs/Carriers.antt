@@ -2,11 +2,11 @@
 use Prim.Native.Nat.{ℕ, _+_, _*_, _/_, _%_}
 use lib.ListN.{getD}
 use Rattle.card.specs.Modes.{carrierBits}
 use Rattle.constellation.specs.declared.Point.{Point}
-use Rattle.constellation.specs.declared.Received.{Received}
-use Rattle.constellation.specs.declared.Received.the-variants.{Heard}
 use Rattle.constellation.specs.Mapping.{pointOf}
-use Rattle.constellation.specs.Slicing.{itemsOf}
+use Rattle.slicing.specs.declared.Received.{Received}
+use Rattle.slicing.specs.declared.Received.the-variants.{Heard}
+use Rattle.slicing.specs.Slicing.{itemsOf}
 
 -- a point that is received as it was sent
 abbrev pub heard : Point → Received

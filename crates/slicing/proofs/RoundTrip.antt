@@ -17,11 +17,11 @@ use Rattle.bits.proofs.ListLaws.{getD-tabulate, tabulate-ext, tabulate-list, fi
 use Rattle.bits.proofs.RangeLaws.{at-each, agree₂}
 use Rattle.refusal.specs.Report.{done, refused}
 use Rattle.card.specs.Modes.{carrierBits}
 use Rattle.constellation.specs.declared.Point.{Point}
 use Rattle.constellation.specs.Mapping.{level2Of, level4Of, coordinate, pointOf, mapping}
-use Rattle.constellation.specs.Slicing.{axis2Of, axis4Of, itemsOf, slicing}
-use Rattle.constellation.specs.Carriers.{heard, carrierPoint, throughPoints}
 use Rattle.constellation.proofs.MappingLaws.{carrier-bits-le, point-reported}
+use Rattle.slicing.specs.Slicing.{axis2Of, axis4Of, itemsOf, slicing}
+use Rattle.slicing.specs.Carriers.{heard, carrierPoint, throughPoints}
 
 -- ---- an axis
 

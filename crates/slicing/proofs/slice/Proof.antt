@@ -1,4 +1,4 @@
--- `constellation::slice` meets its contract: each return is the case of `slicing` that its tests and the carrier's own case lead to. Assumes nothing.
+-- `slicing::slice` meets its contract: each return is the case of `slicing` that its tests and the carrier's own case lead to. Assumes nothing.
 use borrow.Author.Needs.{needs}
 use borrow.Author.Tests.{lt-ltb, le-ltb, eq-eqb, ne-eqb}
 use mathlib.Core.List.{List}
@@ -8,8 +8,8 @@ use native.Mathlib.Omega.{arith}
 use lib.ListN.{replicate}
 use Rattle.refusal.specs.Report.{Report, done}
 use Rattle.card.specs.Modes.{carrierBits}
-use Rattle.constellation.proofs.slice.Statement.{statement}
-use Rattle.constellation.proofs.slice.Tie as tie
+use Rattle.slicing.proofs.slice.Statement.{statement}
+use Rattle.slicing.proofs.slice.Tie as tie
 
 -- the items of a lost carrier, where the modulation is known
 lost : {m k : ℕ} → m ≡ k → _≡_ {A = Report (List ℕ)} (done (replicate (carrierBits k) 2)) (done (replicate (carrierBits m) 2))

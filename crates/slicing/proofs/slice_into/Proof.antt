@@ -1,12 +1,13 @@
--- `constellation::slice_into` meets its contract: each return is a row of the outcome, or none applies. Assumes nothing.
+-- `slicing::slice_into` meets its contract: each return is a row of the outcome, or none applies. Assumes nothing.
 use borrow.Author.Needs.{needs}
 use mathlib.Core.Path.{_≡_, ap, _∙_}
-use Rattle.constellation.specs.declared.Received.{Received}
-use Rattle.constellation.specs.Slicing.{sliced, slicing}
-use Rattle.constellation.specs.Entries.{receivedOf}
-use Rattle.constellation.proofs.EntryLaws.{both, slice-mode, slice-room, slice-done, items-fit}
-use Rattle.constellation.proofs.slice_into.Statement.{statement}
-use Rattle.constellation.proofs.slice_into.Tie as tie
+use Rattle.constellation.proofs.EntryLaws.{both}
+use Rattle.slicing.specs.declared.Received.{Received}
+use Rattle.slicing.specs.Slicing.{sliced, slicing}
+use Rattle.slicing.specs.Entries.{receivedOf}
+use Rattle.slicing.proofs.EntryLaws.{slice-mode, slice-room, slice-done, items-fit}
+use Rattle.slicing.proofs.slice_into.Statement.{statement}
+use Rattle.slicing.proofs.slice_into.Tie as tie
 
 returns : tie.Need-returns
 returns c = both (slice-mode _ _ _ (c .if1 .taken))

@@ -1,8 +1,8 @@
--- `constellation::put_items` meets its contract: each arm puts the items of its case. Assumes nothing.
+-- `slicing::put_items` meets its contract: each arm puts the items of its case. Assumes nothing.
 use borrow.Author.Needs.{needs}
-use Rattle.constellation.proofs.EntryLaws.{refused-kept}
-use Rattle.constellation.proofs.put_items.Statement.{statement}
-use Rattle.constellation.proofs.put_items.Tie as tie
+use Rattle.slicing.proofs.EntryLaws.{refused-kept}
+use Rattle.slicing.proofs.put_items.Statement.{statement}
+use Rattle.slicing.proofs.put_items.Tie as tie
 
 enum-known-s : tie.Need-enum-known-s
 enum-known-s c = search needs

@@ -1,12 +1,12 @@
--- `constellation::axis4` meets its contract: the tests of x and of -x lead to the reading. Assumes nothing.
+-- `slicing::axis4` meets its contract: the tests of x and of -x lead to the reading. Assumes nothing.
 use borrow.Author.Needs.{needs}
 use mathlib.Core.Path.{_≡_, sym, _∙_}
 use mathlib.Core.Bool.{Bool}
 use lib.Ieee.{ofBits, mul, neg}
-use Rattle.constellation.specs.Slicing.{erasureWidth}
-use Rattle.constellation.proofs.DecisionLaws.{over, axis4-positive, axis4-negative, axis4-lost}
-use Rattle.constellation.proofs.axis4.Statement.{statement}
-use Rattle.constellation.proofs.axis4.Tie as tie
+use Rattle.slicing.specs.Slicing.{erasureWidth}
+use Rattle.slicing.proofs.DecisionLaws.{over, axis4-positive, axis4-negative, axis4-lost}
+use Rattle.slicing.proofs.axis4.Statement.{statement}
+use Rattle.slicing.proofs.axis4.Tie as tie
 
 above-requires : tie.Need-above-requires
 above-requires c κs = search needs

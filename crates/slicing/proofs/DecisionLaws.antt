@@ -8,9 +8,9 @@ use borrow.Author.Tests.{ltb-true, ltb-false, le-ltb, eq-eqb, ne-eqb}
 use lib.Dec.{ltb, eqb}
 use lib.IntN.{ℤ}
 use lib.Ieee.{Float, nan, inf, fin, binary64, up, down, mul, lt, le, neg}
 use Rattle.constellation.specs.Factors.{factorOf}
 use Rattle.constellation.specs.Mapping.{pair}
-use Rattle.constellation.specs.Slicing.{Reading, level, lost, erasureFraction, erasureWidth, lower, upper, read2, read4, item2, pair4, axis2Of, axis4Of}
+use Rattle.slicing.specs.Slicing.{Reading, level, lost, erasureFraction, erasureWidth, lower, upper, read2, read4, item2, pair4, axis2Of, axis4Of}
 
 -- ---- at most is not above
 

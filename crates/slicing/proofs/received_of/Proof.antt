@@ -1,7 +1,7 @@
--- `constellation::received_of` meets its contract. Assumes nothing.
+-- `slicing::received_of` meets its contract. Assumes nothing.
 use borrow.Author.Tests.{eq-eqb, ne-eqb}
-use Rattle.constellation.proofs.received_of.Statement.{statement}
-use Rattle.constellation.proofs.received_of.Tie as tie
+use Rattle.slicing.proofs.received_of.Statement.{statement}
+use Rattle.slicing.proofs.received_of.Tie as tie
 
 returns : tie.Need-returns
 returns c = simp (eq-eqb _ _ (c .if1 .taken))

@@ -10,13 +10,13 @@ use Rattle.refusal.specs.declared.Refusal.the-variants.{Mode}
 use Rattle.refusal.specs.Report.{Report, done, refused, refusal}
 use Rattle.refusal.specs.Outcome.{row, reported}
 use Rattle.card.specs.Modes.{carrierBits}
 use Rattle.constellation.specs.declared.Pair.{Pair}
-use Rattle.constellation.specs.declared.Received.{Received}
-use Rattle.constellation.specs.declared.Received.the-variants.{Heard, Lost}
-use Rattle.constellation.specs.declared.Sliced.{Sliced}
-use Rattle.constellation.specs.declared.Sliced.the-variants.{One, Two, Four, Refused}
 use Rattle.constellation.specs.Factors.{byModulation, factorOf}
 use Rattle.constellation.specs.Mapping.{pair, labels}
+use Rattle.slicing.specs.declared.Received.{Received}
+use Rattle.slicing.specs.declared.Received.the-variants.{Heard, Lost}
+use Rattle.slicing.specs.declared.Sliced.{Sliced}
+use Rattle.slicing.specs.declared.Sliced.the-variants.{One, Two, Four, Refused}
 
 -- what is read on an axis: the index of a level, from the lowest, or nothing
 pub data Reading : Type 0 where

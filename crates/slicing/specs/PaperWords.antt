@@ -3,7 +3,7 @@
 use mathlib.Core.Bool.{false, cond, _||_}
 use lib.IntN.{pos}
 use lib.Ieee.{Float, nan, inf, fin, lt, eq}
-use Rattle.constellation.specs.Slicing.{Reading, level, lost, threshold}
+use Rattle.slicing.specs.Slicing.{Reading, level, lost, threshold}
 
 abbrev pub zero : Float
 zero = fin false 0 (pos 0)

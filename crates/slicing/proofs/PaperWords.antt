@@ -7,9 +7,9 @@ use borrow.Author.Tests.{ltb-true, eqb-true, le-ltb, eq-eqb, ne-eqb}
 use lib.Dec.{ltb, eqb}
 use lib.IntN.{ℤ, negsuc}
 use lib.Ieee.{Float, nan, inf, fin, binary64, up, down, add, sub, mul, lt, le, eq}
 use Rattle.constellation.specs.Factors.{qamNumerator, factorOf}
-use Rattle.constellation.specs.Slicing.{Reading, level, lost, erasureFraction, erasureWidth, threshold, lower, upper, read4, reading2, reading4}
-use Rattle.constellation.specs.PaperWords.{zero, worded2, worded4}
+use Rattle.slicing.specs.Slicing.{Reading, level, lost, erasureFraction, erasureWidth, threshold, lower, upper, read4, reading2, reading4}
+use Rattle.slicing.specs.PaperWords.{zero, worded2, worded4}
 
 -- the width is zero at each modulation, and both ends about 2f are 2f
 width-at : (a b : Bool) → mul binary64 (cond a (factorOf 0) (cond b (factorOf 1) (factorOf 2))) erasureFraction ≡ zero

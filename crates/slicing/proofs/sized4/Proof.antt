@@ -1,10 +1,10 @@
--- `constellation::sized4` meets its contract: the code's two constants are bit patterns, which compute to the ends of what is lost. Assumes nothing.
+-- `slicing::sized4` meets its contract: the code's two constants are bit patterns, which compute to the ends of what is lost. Assumes nothing.
 use mathlib.Core.Path.{_≡_}
 use mathlib.Core.Bool.{true, false}
 use lib.Ieee.{ofBits, add, sub, mul, lt, le}
-use Rattle.constellation.specs.Slicing.{lower, upper}
-use Rattle.constellation.proofs.sized4.Statement.{statement}
-use Rattle.constellation.proofs.sized4.Tie as tie
+use Rattle.slicing.specs.Slicing.{lower, upper}
+use Rattle.slicing.proofs.sized4.Statement.{statement}
+use Rattle.slicing.proofs.sized4.Tie as tie
 
 returns : tie.Need-returns
 unfolding ofBits add sub mul

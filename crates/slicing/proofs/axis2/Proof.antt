@@ -1,12 +1,12 @@
--- `constellation::axis2` meets its contract: the tests of x and of -x lead to the reading. Assumes nothing.
+-- `slicing::axis2` meets its contract: the tests of x and of -x lead to the reading. Assumes nothing.
 use borrow.Author.Needs.{needs}
 use mathlib.Core.Path.{_≡_, sym, _∙_, ap}
 use mathlib.Core.Bool.{Bool}
 use lib.Ieee.{Float, neg}
-use Rattle.constellation.specs.Slicing.{level, lost, erasureWidth}
-use Rattle.constellation.proofs.DecisionLaws.{over, axis2-tests}
-use Rattle.constellation.proofs.axis2.Statement.{statement}
-use Rattle.constellation.proofs.axis2.Tie as tie
+use Rattle.slicing.specs.Slicing.{level, lost, erasureWidth}
+use Rattle.slicing.proofs.DecisionLaws.{over, axis2-tests}
+use Rattle.slicing.proofs.axis2.Statement.{statement}
+use Rattle.slicing.proofs.axis2.Tie as tie
 
 erasure-width-requires : tie.Need-erasure-width-requires
 erasure-width-requires c κs = search needs

@@ -1,0 +1,6 @@
+-- What the proofs of `slicing` share, and its theorems. Assumes nothing.
+mod DecisionLaws
+mod NearestLevel
+mod PaperWords
+pub mod RoundTrip
+mod EntryLaws

@@ -1,0 +1,6 @@
+-- What the contracts and the theorems of `slicing` cite. Assumes nothing.
+pub mod Slicing
+pub mod PaperWords
+pub mod Distances
+pub mod Carriers
+pub mod Entries
