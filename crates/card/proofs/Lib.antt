@@ -4,5 +4,4 @@ pub mod GateLaws
 mod CardLaws
 mod WriteLaws
 pub mod RoundTrip
-mod DraftLaws
 mod FieldLaws

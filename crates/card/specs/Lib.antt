@@ -3,5 +3,4 @@ pub mod Modes
 pub mod Card
 pub mod Entries
 pub mod Gate
-pub mod Text
 pub mod Loops

@@ -1,3 +1,2 @@
 -- What only the code's own contracts cite. Assumes nothing.
-pub mod Drafts
 pub mod Fields

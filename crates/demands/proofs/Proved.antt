@@ -21,7 +21,7 @@ use Rattle.card.specs.Card.{cardOf}
 use Rattle.card.specs.Modes.{blockBytes, carrierBits}
 use Rattle.card.specs.Entries.{fieldRows, readFields, writeRows, writeCard}
 use Rattle.card.specs.Gate.{gateRows}
-use Rattle.card.specs.Text.{textRows, textCard}
+use Rattle.printed_card.specs.Text.{textRows, textCard}
 use Rattle.card.proofs.GateLaws.{gate-served}
 use Rattle.card.proofs.RoundTrip.{write-after-read, read-after-write}
 use Rattle.constellation.specs.Entries.{mapRows, mapOutcome}

@@ -11,7 +11,7 @@ use Rattle.card.specs.declared.Card.{Card}
 use Rattle.card.specs.Card.{fieldsOf, cardOf}
 use Rattle.card.specs.Modes.{definedMode}
 use Rattle.card.specs.Entries.{readCard}
-use Rattle.card.specs.Text.{modeLines, cardLines, cardText}
+use Rattle.printed_card.specs.Text.{modeLines, cardLines, cardText}
 use Rattle.text.specs.Text.{ascii, places, decimal, binary}
 use Rattle.scrambler.specs.Scrambler.{feedback, shifted, afterShifts, scramblerBit, allOnes}
 use Rattle.constituent.specs.Encoder.{plus, startOf}

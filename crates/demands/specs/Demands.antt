@@ -13,7 +13,7 @@ use Rattle.card.specs.declared.Card.{Card}
 use Rattle.card.specs.Card.{cardOf}
 use Rattle.card.specs.Modes.{blockBytes}
 use Rattle.card.specs.Entries.{readCard, readFields, writeCard}
-use Rattle.card.specs.Text.{textCard}
+use Rattle.printed_card.specs.Text.{textCard}
 use Rattle.constellation.specs.Entries.{mapOutcome}
 use Rattle.slicing.specs.declared.Received.{Received}
 use Rattle.slicing.specs.Carriers.{throughPoints}

@@ -8,7 +8,7 @@ use lib.ListN.{take}
 use Rattle.refusal.specs.Outcome.{Outcome}
 use Rattle.card.specs.declared.Card.{Card}
 use Rattle.card.specs.Entries.{readFields, writeCard}
-use Rattle.card.specs.Text.{textCard}
+use Rattle.printed_card.specs.Text.{textCard}
 use Rattle.constellation.specs.Entries.{mapOutcome}
 use Rattle.slicing.specs.Entries.{receivedOf, sliceOutcome}
 use Rattle.frame_control.specs.Entries.{send as frameSend, read as frameRead}

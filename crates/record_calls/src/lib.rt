@@ -55,7 +55,7 @@ fn call(call: u64, card: &[u8], input: &[u8], out: &mut [u8]) -> Answer
         1 => frame_control::read(card, input, out),
         2 => payload::send(card, input, out),
         3 => payload::read(card, input, out),
-        5 => card::card_text(card, out),
+        5 => printed_card::card_text(card, out),
         8 => card::write_card(card_in(card), out),
         _ => slice(card, out),
     }

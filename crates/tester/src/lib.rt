@@ -14,7 +14,7 @@ ghost use Rattle.constellation.specs.Entries.{mapOutcome};
 ghost use Rattle.slicing.specs.Entries.{receivedOf, sliceOutcome};
 ghost use Rattle.bands.specs.Units.{placeReport, subCarrierReport, placeOf, subCarrierOf};
 ghost use Rattle.card.specs.Entries.{readFields, writeCard};
-ghost use Rattle.card.specs.Text.{textCard};
+ghost use Rattle.printed_card.specs.Text.{textCard};
 ghost use Rattle.frame_control.specs.Entries.{send as frameSend, read as frameRead};
 ghost use Rattle.payload.specs.Entries.{send as payloadSend, read as payloadRead};
 ghost use Rattle.tester.specs.Call.{Reported, Returned, interfaceVersion};
@@ -73,7 +73,7 @@ pub extern "C" fn hplc_card_write(
 pub extern "C" fn hplc_card_text(card: &[u8], out: &mut [u8], value: &mut [u64; 2]) -> u32
     ensures { λ n. ⌜ Returned (textCard (now (card .entry)) (now (out .entry))) n (now (value .exit)) (now (out .exit)) ⌝ }
 {
-    let answer = card::card_text(card, out);
+    let answer = printed_card::card_text(card, out);
     refusal::report(answer, value)
 }
 

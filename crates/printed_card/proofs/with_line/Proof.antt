@@ -1,13 +1,13 @@
--- `card::with_line` meets its contract. Assumes nothing.
+-- `printed_card::with_line` meets its contract. Assumes nothing.
 use mathlib.Core.Path.{_≡_}
 use native.Mathlib.Omega.{arith}
 use denote.Ref.{now}
 use lib.ListN.{length}
 use Rattle.text.specs.Text.{line}
-use Rattle.card.proofs.DraftLaws.{holds-more}
+use Rattle.printed_card.proofs.DraftLaws.{holds-more}
 use borrow.Author.Needs.{needs}
-use Rattle.card.proofs.with_line.Statement.{statement}
-use Rattle.card.proofs.with_line.Tie as tie
+use Rattle.printed_card.proofs.with_line.Statement.{statement}
+use Rattle.printed_card.proofs.with_line.Tie as tie
 
 slice-aggregate-append-line : tie.Need-slice-aggregate-append-line
 slice-aggregate-append-line c = search needs

@@ -1,11 +1,11 @@
--- `card::mode_lines` meets its contract: five lines, one behind the other. Assumes nothing.
+-- `printed_card::mode_lines` meets its contract: five lines, one behind the other. Assumes nothing.
 use mathlib.Core.Path.{refl}
 use native.Mathlib.Omega.{arith}
-use Rattle.card.specs.Text.{modeLines}
-use Rattle.card.proofs.DraftLaws.{holds-as}
+use Rattle.printed_card.specs.Text.{modeLines}
+use Rattle.printed_card.proofs.DraftLaws.{holds-as}
 use borrow.Author.Needs.{needs}
-use Rattle.card.proofs.mode_lines.Statement.{statement}
-use Rattle.card.proofs.mode_lines.Tie as tie
+use Rattle.printed_card.proofs.mode_lines.Statement.{statement}
+use Rattle.printed_card.proofs.mode_lines.Tie as tie
 
 blank-requires : tie.Need-blank-requires
 blank-requires c κs = search needs

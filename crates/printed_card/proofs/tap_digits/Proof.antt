@@ -1,4 +1,4 @@
--- `card::tap_digits` meets its contract. The invariant: the first i digits are written. Assumes nothing.
+-- `printed_card::tap_digits` meets its contract. The invariant: the first i digits are written. Assumes nothing.
 use mathlib.Core.Path.{_≡_, refl}
 use Prim.Native.Nat.{_+_, _-_, _≤_}
 use native.Mathlib.Omega.{arith}
@@ -8,8 +8,8 @@ use Rattle.bits.specs.Lists.{written}
 use Rattle.bits.proofs.ListLaws.{written-none, written-next, written-whole}
 use Rattle.text.specs.Text.{binary}
 use borrow.Author.Needs.{needs}
-use Rattle.card.proofs.tap_digits.Statement.{statement}
-use Rattle.card.proofs.tap_digits.Tie as tie
+use Rattle.printed_card.proofs.tap_digits.Statement.{statement}
+use Rattle.printed_card.proofs.tap_digits.Tie as tie
 
 abbrev Inv-loop : tie.InvT-loop
 Inv-loop taps digits₀ i₀ digits i = (i ≤ 11) × (digits ≡ written i (λ k. 48 + bitAt (10 - k) taps) digits₀) × (length digits ≡ 11) × (length digits₀ ≡ 11)

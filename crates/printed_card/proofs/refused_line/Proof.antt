@@ -1,11 +1,11 @@
--- `card::refused_line` meets its contract. Assumes nothing.
+-- `printed_card::refused_line` meets its contract. Assumes nothing.
 use mathlib.Core.Path.{sym, ap, _∙_}
 use Rattle.text.specs.Text.{ascii, decimal, line}
 use native.Mathlib.Omega.{arith}
-use Rattle.card.proofs.DraftLaws.{holds-as, text-refusal}
+use Rattle.printed_card.proofs.DraftLaws.{holds-as, text-refusal}
 use borrow.Author.Needs.{needs}
-use Rattle.card.proofs.refused_line.Statement.{statement}
-use Rattle.card.proofs.refused_line.Tie as tie
+use Rattle.printed_card.proofs.refused_line.Statement.{statement}
+use Rattle.printed_card.proofs.refused_line.Tie as tie
 
 blank-requires : tie.Need-blank-requires
 blank-requires c κs = search needs

@@ -1,14 +1,14 @@
--- `card::with_number` meets its contract. Assumes nothing.
+-- `printed_card::with_number` meets its contract. Assumes nothing.
 use mathlib.Core.Path.{_≡_}
 use native.Mathlib.Omega.{arith}
 use denote.Ref.{now}
 use lib.ListN.{length}
 use Rattle.text.specs.Text.{line, decimal}
 use Rattle.text.proofs.TextLaws.{length-line, length-decimal, places-le}
-use Rattle.card.proofs.DraftLaws.{holds-more}
+use Rattle.printed_card.proofs.DraftLaws.{holds-more}
 use borrow.Author.Needs.{needs}
-use Rattle.card.proofs.with_number.Statement.{statement}
-use Rattle.card.proofs.with_number.Tie as tie
+use Rattle.printed_card.proofs.with_number.Statement.{statement}
+use Rattle.printed_card.proofs.with_number.Tie as tie
 
 slice-aggregate-append-number : tie.Need-slice-aggregate-append-number
 slice-aggregate-append-number c = search needs

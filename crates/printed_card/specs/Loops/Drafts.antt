@@ -3,7 +3,7 @@ use mathlib.Core.List.{List}
 use mathlib.Core.Path.{_≡_}
 use Prim.Native.Nat.{ℕ, _≤_}
 use lib.ListN.{length, take}
-use Rattle.card.specs.declared.Draft.{Draft}
+use Rattle.printed_card.specs.declared.Draft.{Draft}
 
 -- the text that a draft holds so far
 unfoldable pub drafted : Draft → List ℕ

@@ -1,13 +1,13 @@
--- `card::card_text` meets its contract: the text is made first, and put where it has room. Assumes nothing.
+-- `printed_card::card_text` meets its contract: the text is made first, and put where it has room. Assumes nothing.
 use mathlib.Core.Path.{_≡_, sym}
 use native.Mathlib.Omega.{arith}
 use lib.ListN.{length}
 use borrow.Author.Tests.{lt-ltb, le-ltb}
-use Rattle.card.specs.Text.{textCard}
-use Rattle.card.proofs.DraftLaws.{put-text, length-held}
+use Rattle.printed_card.specs.Text.{textCard}
+use Rattle.printed_card.proofs.DraftLaws.{put-text, length-held}
 use borrow.Author.Needs.{needs}
-use Rattle.card.proofs.card_text.Statement.{statement}
-use Rattle.card.proofs.card_text.Tie as tie
+use Rattle.printed_card.proofs.card_text.Statement.{statement}
+use Rattle.printed_card.proofs.card_text.Tie as tie
 
 text-of-requires : tie.Need-text-of-requires
 text-of-requires c κs = search needs

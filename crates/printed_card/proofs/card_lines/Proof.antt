@@ -1,15 +1,15 @@
--- `card::card_lines` meets its contract: the mode, the taps and the serial. Assumes nothing.
+-- `printed_card::card_lines` meets its contract: the mode, the taps and the serial. Assumes nothing.
 use mathlib.Core.Path.{refl, ap}
 use mathlib.Core.List.{[], _∷_}
 use Prim.Native.Nat.{_≤_}
 use native.Mathlib.Omega.{arith}
 use lib.ListN.{length, length-append}
 use Rattle.text.proofs.TextLaws.{length-binary}
-use Rattle.card.specs.Text.{cardLines}
-use Rattle.card.proofs.DraftLaws.{holds-as}
+use Rattle.printed_card.specs.Text.{cardLines}
+use Rattle.printed_card.proofs.DraftLaws.{holds-as}
 use borrow.Author.Needs.{needs}
-use Rattle.card.proofs.card_lines.Statement.{statement}
-use Rattle.card.proofs.card_lines.Tie as tie
+use Rattle.printed_card.proofs.card_lines.Statement.{statement}
+use Rattle.printed_card.proofs.card_lines.Tie as tie
 
 tap-digits-requires : tie.Need-tap-digits-requires
 tap-digits-requires c κs = search needs

@@ -1,9 +1,9 @@
--- `card::blank` meets its contract. Assumes nothing.
+-- `printed_card::blank` meets its contract. Assumes nothing.
 use mathlib.Core.Path.{refl}
 use native.Mathlib.Omega.{arith}
-use Rattle.card.specs.Loops.Drafts.{drafted}
-use Rattle.card.proofs.blank.Statement.{statement}
-use Rattle.card.proofs.blank.Tie as tie
+use Rattle.printed_card.specs.Loops.Drafts.{drafted}
+use Rattle.printed_card.proofs.blank.Statement.{statement}
+use Rattle.printed_card.proofs.blank.Tie as tie
 
 returns : tie.Need-returns
 unfolding drafted

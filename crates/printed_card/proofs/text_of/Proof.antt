@@ -1,12 +1,12 @@
--- `card::text_of` meets its contract: the text goes by what reading answers. Assumes nothing.
+-- `printed_card::text_of` meets its contract: the text goes by what reading answers. Assumes nothing.
 use mathlib.Core.Path.{sym, ap, _∙_}
 use native.Mathlib.Omega.{arith}
 use Rattle.card.specs.Entries.{cardRead}
-use Rattle.card.specs.Text.{cardText, textOf}
-use Rattle.card.proofs.DraftLaws.{holds-as}
+use Rattle.printed_card.specs.Text.{cardText, textOf}
+use Rattle.printed_card.proofs.DraftLaws.{holds-as}
 use borrow.Author.Needs.{needs}
-use Rattle.card.proofs.text_of.Statement.{statement}
-use Rattle.card.proofs.text_of.Tie as tie
+use Rattle.printed_card.proofs.text_of.Statement.{statement}
+use Rattle.printed_card.proofs.text_of.Tie as tie
 
 read-card-requires : tie.Need-read-card-requires
 read-card-requires c κs = search needs

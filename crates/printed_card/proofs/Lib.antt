@@ -1,0 +1,2 @@
+-- What the proofs of `printed_card` share. Assumes nothing.
+mod DraftLaws
