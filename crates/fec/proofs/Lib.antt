@@ -1,5 +1,3 @@
 -- What the proofs of `fec` share, and its theorems. Assumes nothing.
 pub mod CodingLaws
-pub mod RecoveryLaws
-mod RowLaws
-mod PartLaws
+pub mod RowLaws

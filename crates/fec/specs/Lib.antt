@@ -1,3 +1,2 @@
 -- What the contracts and the theorems of `fec` cite. Assumes nothing.
 pub mod Coding
-pub mod Recovery

@@ -20,8 +20,8 @@ use Rattle.refusal.proofs.OutcomeLaws.{NoneApplies, none-outcome}
 use Rattle.card.specs.declared.Card.{Card}
 use Rattle.card.specs.Gate.{gate}
 use Rattle.card.proofs.GateLaws.{gate-refuses, gate-passes}
-use Rattle.fec.specs.Recovery.{dataBit, recoverRows, recovered}
-use Rattle.fec.proofs.RecoveryLaws.{recovered-ext}
+use Rattle.recovery.specs.Recovery.{dataBit, recoverRows, recovered}
+use Rattle.recovery.proofs.RecoveryLaws.{recovered-ext}
 use Rattle.bands.specs.Bands.{offsets, carriers}
 use Rattle.frame_control.specs.Entries.{wordRows, sentItem, sendBy, send, decidedBit, itemRows, readRows, readBy, read}
 

@@ -21,9 +21,9 @@ use Rattle.card.proofs.ModeLaws.{defined-half}
 use Rattle.interleaver_shape.specs.Shapes.{codedBits}
 use Rattle.interleaver_shape.proofs.ShapeLaws.{coded-half}
 use Rattle.fec.specs.Coding.{codedBit}
-use Rattle.fec.specs.Recovery.{firstUndecided, recovered}
 use Rattle.fec.proofs.CodingLaws.{coded-binary}
-use Rattle.fec.proofs.RecoveryLaws.{clean-return, undecided-le, refused-majority}
+use Rattle.recovery.specs.Recovery.{firstUndecided, recovered}
+use Rattle.recovery.proofs.RecoveryLaws.{clean-return, undecided-le, refused-majority}
 use Rattle.votes.specs.Damage.{Damage, altered, lost}
 use Rattle.votes.proofs.DamageLaws.{none-above}
 use Rattle.bands.specs.Bands.{bandCount}

@@ -12,7 +12,7 @@ use Rattle.refusal.specs.Outcome.{Row, row, Outcome, outcome}
 use Rattle.card.specs.Card.{cardOf}
 use Rattle.card.specs.Gate.{gateRows}
 use Rattle.fec.specs.Coding.{codedBit}
-use Rattle.fec.specs.Recovery.{dataBit, recoverRows}
+use Rattle.recovery.specs.Recovery.{dataBit, recoverRows}
 use Rattle.votes.specs.Votes.{carries, decided}
 use Rattle.bands.specs.Bands.{carriers, offsets}
 use Rattle.diversity.specs.Lanes.{laneBit, itemCount}

@@ -17,9 +17,9 @@ use Rattle.scrambler.proofs.ScramblerLaws.{length-scramble, bits-scramble}
 use Rattle.interleaver_shape.specs.Shapes.{codedBits}
 use Rattle.interleaver_shape.proofs.ShapeLaws.{coded-le}
 use Rattle.fec.specs.Coding.{dataBits, codedBit}
-use Rattle.fec.specs.Recovery.{dataBit, recovered}
 use Rattle.fec.proofs.CodingLaws.{coded-ext}
-use Rattle.fec.proofs.RecoveryLaws.{recovered-ext}
+use Rattle.recovery.specs.Recovery.{dataBit, recovered}
+use Rattle.recovery.proofs.RecoveryLaws.{recovered-ext}
 use Rattle.votes.specs.Votes.{decided}
 use Rattle.payload_layout.specs.declared.Layout.{Layout}
 use Rattle.payload_layout.specs.Layouts.{items}

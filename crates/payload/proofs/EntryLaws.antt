@@ -23,9 +23,9 @@ use Rattle.scrambler.proofs.ScramblerLaws.{scramble-bytes}
 use Rattle.interleaver_shape.specs.Shapes.{codedBits}
 use Rattle.interleaver.specs.Source.{codedAt}
 use Rattle.interleaver.proofs.InterleaverLaws.{coded-lt}
-use Rattle.fec.specs.Recovery.{dataBit, firstUndecided, recoverRows, recovered}
 use Rattle.fec.proofs.CodingLaws.{coded-count}
-use Rattle.fec.proofs.RecoveryLaws.{all-decided}
+use Rattle.recovery.specs.Recovery.{dataBit, firstUndecided, recoverRows, recovered}
+use Rattle.recovery.proofs.RecoveryLaws.{all-decided}
 use Rattle.payload_layout.specs.declared.Layout.{Layout}
 use Rattle.payload_layout.specs.Layouts.{items}
 use Rattle.payload.specs.Entries.{blockLayout, padRow, sendRows, itemsMade, sendBy, send, decidedBit, blockMade, itemRows, readRows, decidedBlock, readBy, read}

@@ -22,10 +22,10 @@ use Rattle.scrambler.specs.Scrambler.{scrambled}
 use Rattle.scrambler.proofs.ScramblerLaws.{scrambled-at, scrambled-twice, block-binary}
 use Rattle.interleaver_shape.specs.Shapes.{codedBits}
 use Rattle.fec.specs.Coding.{dataBits, codedBit}
-use Rattle.fec.specs.Recovery.{dataBit, firstUndecided, disagreeing, recoverRows}
-use Rattle.bits.proofs.ListLaws.{take-written}
 use Rattle.fec.proofs.CodingLaws.{coded-binary}
-use Rattle.fec.proofs.RecoveryLaws.{clean-data, clean-rows, refused-parity}
+use Rattle.recovery.specs.Recovery.{dataBit, firstUndecided, disagreeing, recoverRows}
+use Rattle.recovery.proofs.RecoveryLaws.{clean-data, clean-rows, refused-parity}
+use Rattle.bits.proofs.ListLaws.{take-written}
 use Rattle.votes.specs.Votes.{copies, wrongCopies, lostCopies}
 use Rattle.votes.specs.Damage.{Damage}
 use Rattle.votes.proofs.DamageLaws.{none-above}

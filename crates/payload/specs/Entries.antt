@@ -16,7 +16,7 @@ use Rattle.card.specs.Gate.{gateRows}
 use Rattle.scrambler.specs.Scrambler.{scrambled}
 use Rattle.interleaver_shape.specs.Shapes.{codedBits}
 use Rattle.fec.specs.Coding.{codedBit}
-use Rattle.fec.specs.Recovery.{dataBit, recoverRows}
+use Rattle.recovery.specs.Recovery.{dataBit, recoverRows}
 use Rattle.votes.specs.Votes.{decided}
 use Rattle.payload_layout.specs.declared.Layout.{Layout}
 use Rattle.payload_layout.specs.Layouts.{layoutOf, items}

@@ -101,7 +101,7 @@ fn read_items(
     payload_layout::decide(l, items, &mut decided);
     let count = l.coded;
     let mut block = [0u8; 520];
-    match fec::recover(kind, rate, taps, &decided[..count], &mut block) {
+    match recovery::recover(kind, rate, taps, &decided[..count], &mut block) {
         Answer::Refused(r) => Answer::Refused(r),
         Answer::Done(size) => {
             scrambler::scramble(&block[..size], out);

@@ -6,8 +6,8 @@ use native.Mathlib.Omega.{arith}
 use lib.ListN.{replicate}
 use Rattle.refusal.specs.Report.{answer, done}
 use Rattle.refusal.specs.Outcome.{Outcome}
-use Rattle.fec.specs.Recovery.{recovered}
 use Rattle.fec.proofs.CodingLaws.{few-bytes}
+use Rattle.recovery.specs.Recovery.{recovered}
 use Rattle.payload.specs.Entries.{decidedBit}
 use Rattle.payload.proofs.EntryLaws.{block-refused}
 use Rattle.payload.proofs.BufferLaws.{part-room, part-length, coded-fits, decided-recovered, block-size, block-length, block-room, block-report, block-out}

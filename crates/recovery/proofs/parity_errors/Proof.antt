@@ -1,13 +1,13 @@
--- `fec::parity_errors` meets its contract. Assumes nothing.
+-- `recovery::parity_errors` meets its contract. Assumes nothing.
 use mathlib.Core.Path.{refl, sym, _∙_}
 use native.Mathlib.Omega.{arith}
 use borrow.Author.Needs.{needs}
 use Rattle.turbo.proofs.ParityLaws.{kept-binary}
 use Rattle.fec.proofs.CodingLaws.{kept-most}
 use Rattle.fec.proofs.RowLaws.{kept-bytes}
-use Rattle.fec.proofs.PartLaws.{holds, first-length, counted}
-use Rattle.fec.proofs.parity_errors.Statement.{statement}
-use Rattle.fec.proofs.parity_errors.Tie as tie
+use Rattle.recovery.proofs.PartLaws.{holds, first-length, counted}
+use Rattle.recovery.proofs.parity_errors.Statement.{statement}
+use Rattle.recovery.proofs.parity_errors.Tie as tie
 
 encode-requires : tie.Need-encode-requires
 encode-requires c κs = search needs

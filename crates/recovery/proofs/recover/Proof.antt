@@ -1,4 +1,4 @@
--- `fec::recover` meets its contract: an undecided bit refuses, and each array has room for the rows. Assumes nothing.
+-- `recovery::recover` meets its contract: an undecided bit refuses, and each array has room for the rows. Assumes nothing.
 use mathlib.Core.Path.{_≡_, sym, ap, _∙_}
 use mathlib.Core.List.{List}
 use Prim.Native.Nat.{ℕ, _≤_}
@@ -8,13 +8,13 @@ use Rattle.bits.specs.Lists.{firstAbove}
 use Rattle.refusal.specs.Report.{refused}
 use Rattle.refusal.specs.Outcome.{Outcome}
 use Rattle.interleaver_shape.proofs.ShapeLaws.{coded-le}
-use Rattle.fec.specs.Recovery.{firstUndecided}
 use Rattle.fec.proofs.CodingLaws.{frame-coded, short-coded}
-use Rattle.fec.proofs.RecoveryLaws.{refused-majority}
-use Rattle.fec.proofs.PartLaws.{decidedAt, first-is}
+use Rattle.recovery.specs.Recovery.{firstUndecided}
+use Rattle.recovery.proofs.RecoveryLaws.{refused-majority}
+use Rattle.recovery.proofs.PartLaws.{decidedAt, first-is}
 use borrow.Author.Needs.{needs}
-use Rattle.fec.proofs.recover.Statement.{statement}
-use Rattle.fec.proofs.recover.Tie as tie
+use Rattle.recovery.proofs.recover.Statement.{statement}
+use Rattle.recovery.proofs.recover.Tie as tie
 
 -- the function's entry, from the place where all bits are decided
 abbrev entry : tie.Else1 → tie.Start

@@ -1,4 +1,4 @@
--- `fec::recover_by` meets its contract. Assumes nothing.
+-- `recovery::recover_by` meets its contract. Assumes nothing.
 use mathlib.Core.Path.{_≡_, sym, ap, _∙_}
 use mathlib.Core.List.{List}
 use Prim.Native.Nat.{ℕ, _/_}
@@ -8,12 +8,12 @@ use Rattle.refusal.specs.Report.{Report, done, refused}
 use Rattle.refusal.specs.Outcome.{Outcome}
 use Rattle.card.specs.Modes.{blockBytes}
 use Rattle.turbo.specs.Puncture.{keptCount}
-use Rattle.fec.specs.Recovery.{dataBit, parityBit, disagreeing}
 use Rattle.fec.proofs.CodingLaws.{few-bytes, kept-most}
-use Rattle.fec.proofs.RecoveryLaws.{refused-parity, recovered-good}
-use Rattle.fec.proofs.PartLaws.{decidedAt, none-undecided, decided-binary, Holds, holds, first-length, first-fits, errors-are, block-put}
-use Rattle.fec.proofs.recover_by.Statement.{statement}
-use Rattle.fec.proofs.recover_by.Tie as tie
+use Rattle.recovery.specs.Recovery.{dataBit, parityBit, disagreeing}
+use Rattle.recovery.proofs.RecoveryLaws.{refused-parity, recovered-good}
+use Rattle.recovery.proofs.PartLaws.{decidedAt, none-undecided, decided-binary, Holds, holds, first-length, first-fits, errors-are, block-put}
+use Rattle.recovery.proofs.recover_by.Statement.{statement}
+use Rattle.recovery.proofs.recover_by.Tie as tie
 
 -- the function's entry, from the place where the parts are taken, and that place, from where the errors are counted
 abbrev entry : tie.After-take-apart → tie.Start

@@ -19,11 +19,11 @@ use Rattle.turbo.proofs.ParityLaws.{kept-ext}
 use Rattle.interleaver_shape.specs.Shapes.{codedBits}
 use Rattle.interleaver.specs.Source.{codedAt}
 use Rattle.interleaver.proofs.InterleaverLaws.{coded-lt}
 use Rattle.fec.specs.Coding.{dataBits}
-use Rattle.fec.specs.Recovery.{dataBit, parityBit, firstUndecided, disagreeing}
 use Rattle.fec.proofs.CodingLaws.{coded-count}
-use Rattle.fec.proofs.RecoveryLaws.{all-decided}
 use Rattle.fec.proofs.RowLaws.{kept-bytes}
+use Rattle.recovery.specs.Recovery.{dataBit, parityBit, firstUndecided, disagreeing}
+use Rattle.recovery.proofs.RecoveryLaws.{all-decided}
 
 -- the elements of a list as bits
 abbrev pub decidedAt : List ℕ → ℕ → ℕ

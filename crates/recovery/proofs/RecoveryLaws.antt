@@ -22,9 +22,9 @@ use Rattle.turbo.proofs.ParityLaws.{kept-ext}
 use Rattle.interleaver_shape.specs.Shapes.{codedBits}
 use Rattle.interleaver.specs.Source.{codedAt}
 use Rattle.interleaver.proofs.InterleaverLaws.{coded-lt, source-coded}
 use Rattle.fec.specs.Coding.{dataBits, sourceBit, codedBit}
-use Rattle.fec.specs.Recovery.{dataBit, parityBit, firstUndecided, disagreeing, recoverRows, recovered}
 use Rattle.fec.proofs.CodingLaws.{source-data, source-parity, coded-count, coded-binary}
+use Rattle.recovery.specs.Recovery.{dataBit, parityBit, firstUndecided, disagreeing, recoverRows, recovered}
 
 -- ---- the three cases
 

@@ -1,4 +1,4 @@
--- `fec::take_apart` meets its contract. Assumes nothing.
+-- `recovery::take_apart` meets its contract. Assumes nothing.
 use mathlib.Core.Path.{refl, sym, _∙_}
 use Prim.Native.Nat.{_*_, _≤_}
 use native.Mathlib.Omega.{arith}
@@ -6,11 +6,12 @@ use denote.Ref.{now}
 use lib.ListN.{length}
 use lib.Seq.{length-take-le}
 use borrow.Author.Needs.{needs}
 use Rattle.fec.proofs.CodingLaws.{few-bytes}
-use Rattle.fec.proofs.RowLaws.{data-served, parity-served, kept-bytes, all-rows, rows-long, data-rows-binary, block-written, parity-rows-long, parity-rows-binary, parity-written}
-use Rattle.fec.proofs.PartLaws.{decided-binary}
-use Rattle.fec.proofs.take_apart.Statement.{statement}
-use Rattle.fec.proofs.take_apart.Tie as tie
+use Rattle.fec.proofs.RowLaws.{data-served, parity-served, kept-bytes, all-rows}
+use Rattle.recovery.proofs.RowLaws.{rows-long, data-rows-binary, block-written, parity-rows-long, parity-rows-binary, parity-written}
+use Rattle.recovery.proofs.PartLaws.{decided-binary}
+use Rattle.recovery.proofs.take_apart.Statement.{statement}
+use Rattle.recovery.proofs.take_apart.Tie as tie
 
 -- the data rows are among those that were put in order
 long : (c : tie.After-deinterleave) → 4 * c .before .before .data-rows .result ≤ length (c .deinterleave .last .1 .1 .1 .0)
