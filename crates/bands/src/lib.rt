@@ -2,9 +2,11 @@
 //
 // `place_of` and `sub_carrier_of` are public entries: they take every number and refuse by the table. The rest is internal, and its
 // callers show what it requires.
+use refusal::Answer;
 use refusal::Refusal;
 ghost use mathlib.Core.Path.{_≡_};
 ghost use Prim.Native.Nat.{_<_};
+ghost use Rattle.refusal.specs.Report.{answer};
 ghost use Rattle.bands.specs.Bands.{bandCount, firstSubCarrier, lastSubCarrier, symbols as symbolsOf, symbolOffsets, carriers as carriersOf};
 ghost use Rattle.bands.specs.Units.{placeReport, subCarrierReport, placeOf, subCarrierOf};
 
@@ -86,6 +88,26 @@ pub fn sub_carrier_of(band: usize, p: Place) -> SubCarrierOf
         return SubCarrierOf::Refused(Refusal::Length(number));
     }
     SubCarrierOf::At(SubCarrier(first_of(band) + number))
+}
+
+// A place as an answer.
+pub fn place_answer(p: PlaceOf) -> Answer
+    ensures { λ r. ⌜ answer r ≡ placeReport p ⌝ }
+{
+    match p {
+        PlaceOf::At(place) => Answer::Done(place.0),
+        PlaceOf::Refused(r) => Answer::Refused(r),
+    }
+}
+
+// A sub-carrier as an answer.
+pub fn sub_carrier_answer(s: SubCarrierOf) -> Answer
+    ensures { λ r. ⌜ answer r ≡ subCarrierReport s ⌝ }
+{
+    match s {
+        SubCarrierOf::At(sub_carrier) => Answer::Done(sub_carrier.0),
+        SubCarrierOf::Refused(r) => Answer::Refused(r),
+    }
 }
 
 // ---- frame-control symbols

@@ -3,16 +3,12 @@
 // A call returns the number of paper 01's table and always stores what comes with it behind `value`: the answer's second half, and no
 // lent buffer. Each promise goes through the same outcome definition as the entry below it.
 use bands::Place;
-use bands::PlaceOf;
 use bands::SubCarrier;
-use bands::SubCarrierOf;
 use card::Card;
-use refusal::Answer;
 ghost use mathlib.Core.Path.{_≡_};
-ghost use Rattle.refusal.specs.Report.{answer};
 ghost use Rattle.constellation.specs.Entries.{mapOutcome};
 ghost use Rattle.slicing.specs.Entries.{receivedOf, sliceOutcome};
-ghost use Rattle.bands.specs.Units.{placeReport, subCarrierReport, placeOf, subCarrierOf};
+ghost use Rattle.bands.specs.Units.{placeOf, subCarrierOf};
 ghost use Rattle.card.specs.Entries.{readFields, writeCard};
 ghost use Rattle.printed_card.specs.Text.{textCard};
 ghost use Rattle.frame_control.specs.Entries.{send as frameSend, read as frameRead};
@@ -107,26 +103,6 @@ pub extern "C" fn hplc_slice(
     refusal::report(answer, value)
 }
 
-// A place as an answer.
-fn place_answer(p: PlaceOf) -> Answer
-    ensures { λ r. ⌜ answer r ≡ placeReport p ⌝ }
-{
-    match p {
-        PlaceOf::At(place) => Answer::Done(place.0),
-        PlaceOf::Refused(r) => Answer::Refused(r),
-    }
-}
-
-// A sub-carrier as an answer.
-fn sub_carrier_answer(s: SubCarrierOf) -> Answer
-    ensures { λ r. ⌜ answer r ≡ subCarrierReport s ⌝ }
-{
-    match s {
-        SubCarrierOf::At(sub_carrier) => Answer::Done(sub_carrier.0),
-        SubCarrierOf::Refused(r) => Answer::Refused(r),
-    }
-}
-
 // The place of a sub-carrier in a band.
 #[no_mangle]
 pub extern "C" fn hplc_place_of_sub_carrier(
@@ -137,7 +113,7 @@ pub extern "C" fn hplc_place_of_sub_carrier(
     ensures { λ n. ⌜ Reported (placeOf band «sub_carrier») n (now (value .exit)) ⌝ }
 {
     let place = bands::place_of(band as usize, SubCarrier(sub_carrier as usize));
-    refusal::report(place_answer(place), value)
+    refusal::report(bands::place_answer(place), value)
 }
 
 // The sub-carrier at a place of a band.
@@ -146,7 +122,7 @@ pub extern "C" fn hplc_sub_carrier_of_place(band: u64, place: u64, value: &mut [
     ensures { λ n. ⌜ Reported (subCarrierOf band place) n (now (value .exit)) ⌝ }
 {
     let sub_carrier = bands::sub_carrier_of(band as usize, Place(place as usize));
-    refusal::report(sub_carrier_answer(sub_carrier), value)
+    refusal::report(bands::sub_carrier_answer(sub_carrier), value)
 }
 
 // The items of a frame control.

@@ -1,8 +1,8 @@
--- `tester::sub_carrier_answer` meets its contract. Assumes nothing.
+-- `bands::sub_carrier_answer` meets its contract. Assumes nothing.
 use mathlib.Core.Path.{refl}
 use borrow.Author.Needs.{needs}
-use Rattle.tester.proofs.sub_carrier_answer.Statement.{statement}
-use Rattle.tester.proofs.sub_carrier_answer.Tie as tie
+use Rattle.bands.proofs.sub_carrier_answer.Statement.{statement}
+use Rattle.bands.proofs.sub_carrier_answer.Tie as tie
 
 enum-known-s : tie.Need-enum-known-s
 enum-known-s c = search needs

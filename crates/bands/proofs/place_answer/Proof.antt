@@ -1,8 +1,8 @@
--- `tester::place_answer` meets its contract. Assumes nothing.
+-- `bands::place_answer` meets its contract. Assumes nothing.
 use mathlib.Core.Path.{refl}
 use borrow.Author.Needs.{needs}
-use Rattle.tester.proofs.place_answer.Statement.{statement}
-use Rattle.tester.proofs.place_answer.Tie as tie
+use Rattle.bands.proofs.place_answer.Statement.{statement}
+use Rattle.bands.proofs.place_answer.Tie as tie
 
 enum-known-p : tie.Need-enum-known-p
 enum-known-p c = search needs
