@@ -1,16 +1,18 @@
 -- What puncturing keeps, and the order of the kept times. Assumes nothing.
 use mathlib.Core.Path.{_≡_, refl, sym, ap, ap₂, _∙_}
 use mathlib.Core.Bool.{true, false, _||_}
+use mathlib.Core.List.{[], _∷_}
 use Prim.Native.Nat.{ℕ, zero, suc, _+_, _-_, _*_, _/_, _%_, _≤_, _<_, _^_}
 use native.Mathlib.Nat.{mod-lt}
 use native.Mathlib.Omega.{arith}
 use lib.Count.{ones, onesIn, leadingZeros, leading-le}
 use lib.Dec.{eqb, ltb, ltb→lt, leb, leb→le, lit<}
+use lib.ListN.{getD}
 use Rattle.bits.specs.Bits.{bitAt}
 use Rattle.bits.specs.Lists.{lowest}
 use Rattle.bits.specs.Ranges.{allBelow}
 use Rattle.bits.specs.Sums.{sum, count}
-use Rattle.bits.proofs.RangeLaws.{at-each, agree₂, agree-tests}
+use Rattle.bits.proofs.RangeLaws.{at-each, agree, agree₂, agree-tests}
 use Rattle.bits.proofs.SumLaws.{count-append, count-ext, count-le, lowest-nth, nth}
 use Rattle.constituent.specs.Pairs.{pairCount}
 use Rattle.turbo.specs.Puncture.{pattern, kept, keptTime, keptCount}
@@ -31,15 +33,25 @@ pub kept-at : (t : ℕ) → kept 1 t ≡ (eqb (t % 16) 0 || eqb (t % 16) 8)
 unfolding kept
 kept-at t = kept-mod 1 t ∙ agree-tests 16 (kept 1) (λ r. eqb r 0 || eqb r 8) tt (t % 16) (mod-lt t (lit< tt))
 
+-- the ones of each pattern, counted once
+abbrev pub onesOf : ℕ → ℕ
+onesOf rate = getD (16 ∷ 2 ∷ []) rate 0
+
+pub pattern-ones : (rate : ℕ) → rate < 2 → ones (pattern rate) ≡ onesOf rate
+unfolding ones onesIn
+pattern-ones = agree 2 (λ rate. ones (pattern rate)) onesOf tt
+
 -- of every sixteen times as many are kept as the pattern has ones, computed at every kind and rate
+ones-kept : (kind rate : ℕ) → kind < 5 → rate < 2 → pairCount kind / 8 * onesOf rate ≡ keptCount kind rate
+unfolding keptCount kept count sum
+ones-kept = agree₂ 5 2 (λ kind rate. pairCount kind / 8 * onesOf rate) keptCount tt
+
 pub kept-count : (kind rate : ℕ) → kind < 5 → rate < 2 → pairCount kind / 8 * ones (pattern rate) ≡ keptCount kind rate
-unfolding keptCount kept count sum ones onesIn
-kept-count = agree₂ 5 2 (λ kind rate. pairCount kind / 8 * ones (pattern rate)) keptCount tt
+kept-count kind rate h l = ap (_*_ (pairCount kind / 8)) (pattern-ones rate l) ∙ ones-kept kind rate h l
 
 -- 520 parity bits remain of the longest block at rate 16/18
 pub remain : keptCount 4 1 ≡ 520
-unfolding ones onesIn
-remain = sym (kept-count 4 1 (lit< tt) (lit< tt))
+remain = sym (ones-kept 4 1 (lit< tt) (lit< tt))
 
 -- a time that is kept is the one after as many others as are kept before it
 pub kept-time : (kind rate t : ℕ) → t < pairCount kind → kept rate t ≡ true → keptTime kind rate (count t (kept rate)) ≡ t
@@ -124,9 +136,8 @@ places-lt rate e = rw e (lit< tt, lit< tt)
 
 -- two rows for each byte that is kept are in the block
 pub rows-in-block : (kind rate i : ℕ) → kind < 5 → rate ≡ 1 → i < keptCount kind rate / 8 → 32 * i + 32 ≤ pairCount kind
-unfolding ones onesIn
 rows-in-block kind rate i h e l =
-    let n : pairCount kind / 8 * 2 ≡ keptCount kind 1 = kept-count kind 1 h (lit< tt) in
+    let n : pairCount kind / 8 * 2 ≡ keptCount kind 1 = ones-kept kind 1 h (lit< tt) in
     let b : i < keptCount kind 1 / 8 = rw e at l in
     omega arith
 
