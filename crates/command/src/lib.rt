@@ -1,24 +1,18 @@
-// What the programs share: how they are called, files that arguments name, and bytes and refusals on standard output.
+// What the programs share: how they are called, files that arguments name, and refusals on standard output.
 //
 // Internal: nothing here is a public entry. What the system's calls do is assumed, as in every program, and no contract can say what is
-// read or written.
+// read or written (D24).
 use libc::STDERR_FILENO;
-use libc::STDOUT_FILENO;
 use refusal::Refusal;
 ghost use mathlib.Core.Path.{_≡_};
 ghost use lib.ListN.{length};
 ghost use Rattle.io.specs.Counts.{Counts};
 ghost use Rattle.job.specs.Jobs.{refusalLines};
 
-// Some bytes on standard output.
-pub fn put(bytes: &[u8]) {
-    io::write_all(STDOUT_FILENO, bytes);
-}
-
 // The first n of some bytes on standard output, or none where there are fewer.
 pub fn put_first(bytes: &[u8], n: usize) {
     if n <= bytes.len() {
-        put(&bytes[..n]);
+        output::put(&bytes[..n]);
     }
 }
 
@@ -36,7 +30,7 @@ fn asks_help() -> bool {
 // for by `-h` or `--help`, and on standard error otherwise.
 pub fn called_with(arguments: usize, usage: &[u8]) -> bool {
     if asks_help() {
-        put(usage);
+        output::put(usage);
         return false;
     }
     let count = os::arg_count();

@@ -10,7 +10,7 @@ fn put_hex(bytes: &[u8; 520], n: usize) {
     text::hex(bytes, &mut digits);
     if n <= 520 {
         command::put_first(&digits, 2 * n);
-        command::put(b"\n");
+        output::put(b"\n");
     }
 }
 

@@ -1,7 +1,7 @@
-// Bytes and numbers on standard output, for the programs that run vectors.
+// Bytes and numbers on standard output.
 //
 // Internal: nothing here is a public entry. What the system's calls do is assumed, as in every program, and no contract can say what is
-// written.
+// written (D24): a function here answers nothing and is lent nothing to write to.
 use libc::STDOUT_FILENO;
 
 // Some bytes.

@@ -9,7 +9,7 @@ use borrow.Author.Tests.{le-ltb}
 use Rattle.bits.specs.Bits.{bitOf, bytesOf}
 use Rattle.bits.specs.Lists.{tabulate, written}
 use Rattle.bits.proofs.BitLaws.{Binary, same-bits, bytes-bits}
-use Rattle.bits.proofs.ListLaws.{length-tabulate, getD-tabulate, lowest-none}
+use Rattle.bits.proofs.ListLaws.{length-tabulate, getD-tabulate, lowest-none, take-written}
 use Rattle.refusal.specs.declared.Refusal.the-variants.{Parity}
 use Rattle.refusal.specs.Report.{done, refused}
 use Rattle.refusal.specs.Outcome.{Outcome}
@@ -25,7 +25,6 @@ use Rattle.fec.specs.Coding.{dataBits, codedBit}
 use Rattle.fec.proofs.CodingLaws.{coded-binary}
 use Rattle.recovery.specs.Recovery.{dataBit, firstUndecided, disagreeing, recoverRows}
 use Rattle.recovery.proofs.RecoveryLaws.{clean-data, clean-rows, refused-parity}
-use Rattle.bits.proofs.ListLaws.{take-written}
 use Rattle.votes.specs.Votes.{copies, wrongCopies, lostCopies}
 use Rattle.votes.specs.Damage.{Damage}
 use Rattle.votes.proofs.DamageLaws.{none-above}

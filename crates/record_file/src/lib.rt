@@ -4,10 +4,14 @@
 // output. Numbers are big endian. A label stands behind its length, of one byte; a card, an input and an expected output stand behind
 // theirs, of two. `record_calls` says which number is which call.
 //
-// Internal: nothing here is a public entry. What the system's calls do is assumed, as in every program, and no contract can say what is
-// read or written.
+// Internal: nothing here is a public entry. What the system's calls do is assumed, as in every program: of what is read contracts say
+// bounds alone, and of what is written nothing (D24).
 use record::Record;
+ghost use mathlib.Core.Path.{_≡_};
+ghost use mathlib.Core.Bool.{true};
 ghost use Prim.Native.Nat.{_≤_};
+ghost use lib.ListN.{length};
+ghost use Rattle.record_file.specs.Reading.{serves, AtMost, Whole};
 
 // The lengths of a record's bytes.
 pub struct Lengths {
@@ -48,31 +52,37 @@ fn read_number(fd: i32, width: usize) -> Number
 }
 
 // Reads as many bytes, and answers their number; it is missing where the file breaks off or there is no room for the bytes.
-fn read_bytes(fd: i32, length: u64, out: &mut [u8]) -> Number {
-    let n = length as usize;
+fn read_bytes(fd: i32, count: u64, out: &mut [u8]) -> Number
+    ensures { λ r. ⌜ AtMost (length (now (out .entry))) r ⌝ }
+{
+    let n = count as usize;
     if out.len() < n {
         return Number::Missing;
     }
     if io::read_full(fd, &mut out[..n]) != n {
         return Number::Missing;
     }
-    Number::Of(length)
+    Number::Of(count)
 }
 
 // Reads a length of two bytes, and as many bytes.
-fn read_part(fd: i32, out: &mut [u8]) -> Number {
-    let Number::Of(length) = read_number(fd, 2) else {
+fn read_part(fd: i32, out: &mut [u8]) -> Number
+    ensures { λ r. ⌜ AtMost (length (now (out .entry))) r ⌝ }
+{
+    let Number::Of(count) = read_number(fd, 2) else {
         return Number::Missing;
     };
-    read_bytes(fd, length, out)
+    read_bytes(fd, count, out)
 }
 
 // Whether a card has the length that its call has.
-fn card_serves(call: u64, length: u64) -> bool {
+fn card_serves(call: u64, count: u64) -> bool
+    ensures { λ r. ⌜ r ≡ serves call count ⌝ }
+{
     match call {
-        6 => length == 1,
-        7 => length == 18,
-        8 => length == 64,
+        6 => count == 1,
+        7 => count == 18,
+        8 => count == 64,
         _ => call < 6,
     }
 }
@@ -85,7 +95,10 @@ fn read_rest(
     card: u64,
     input: &mut [u8],
     expected: &mut [u8],
-) -> Next {
+) -> Next
+    requires { ⌜ serves call card ≡ true ⌝ }
+    ensures { λ r. ⌜ Whole label card (length (now (input .entry))) (length (now (expected .entry))) r ⌝ }
+{
     let Number::Of(input_length) = read_part(fd, input) else {
         return Next::Broken;
     };
@@ -124,11 +137,13 @@ pub fn read_record(
     card: &mut [u8],
     input: &mut [u8],
     expected: &mut [u8],
-) -> Next {
-    let Number::Of(label_len) = read_number(fd, 1) else {
+) -> Next
+    ensures { λ r. ⌜ Whole (length (now (label .entry))) (length (now (card .entry))) (length (now (input .entry))) (length (now (expected .entry))) r ⌝ }
+{
+    let Number::Of(count) = read_number(fd, 1) else {
         return Next::End;
     };
-    let Number::Of(_) = read_bytes(fd, label_len, label) else {
+    let Number::Of(label_len) = read_bytes(fd, count, label) else {
         return Next::Broken;
     };
     let Number::Of(call) = read_number(fd, 1) else {
@@ -137,10 +152,10 @@ pub fn read_record(
     let Number::Of(card_len) = read_part(fd, card) else {
         return Next::Broken;
     };
-    if !card_serves(call, card_len) {
-        return Next::Broken;
+    if card_serves(call, card_len) {
+        return read_rest(fd, label_len, call, card_len, input, expected);
     }
-    read_rest(fd, label_len, call, card_len, input, expected)
+    Next::Broken
 }
 
 // A line with a number at its end.

@@ -39,10 +39,15 @@ unfolding sliceOf
 returns c =
     let b = c .before .before .before .before in
     let w = b .before .before .before .before in
-    let s = c .before .before .slice-into .ensures in (
-      rw (b .before .byte-at .ensures, b .byte-at2 .ensures, w .float-of .ensures, b .before .before .float-of2 .ensures, w .before .word-at .ensures, b .before .before .before .word-at2 .ensures) at (s .0),
-      rw (b .before .byte-at .ensures, b .byte-at2 .ensures, w .float-of .ensures, b .before .before .float-of2 .ensures, w .before .word-at .ensures, b .before .before .before .word-at2 .ensures) at (s .1),
+    rw (
+      b .before .byte-at .ensures,
+      b .byte-at2 .ensures,
+      w .float-of .ensures,
+      b .before .before .float-of2 .ensures,
+      w .before .word-at .ensures,
+      b .before .before .before .word-at2 .ensures,
     )
+    at (c .before .before .slice-into .ensures)
 
 pub slice-spec : {M : Type 1} → statement M
 slice-spec =

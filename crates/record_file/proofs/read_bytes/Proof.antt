@@ -1,4 +1,4 @@
--- `record_file::read_bytes` is safe: the bytes are read to a part of the memory. Assumes nothing.
+-- `record_file::read_bytes` meets its contract: the bytes are read to a part of the memory. Assumes nothing.
 use mathlib.Core.Path.{sym}
 use native.Mathlib.Omega.{arith}
 use lib.Seq.{length-take-le}

@@ -1,0 +1,2 @@
+-- What the contracts of `record_file` cite. Assumes nothing.
+pub mod Reading
