@@ -34,7 +34,7 @@ extern "C" {
 
 /* The version of this interface. hplc_version() gives that of the library: the same number where both belong together. */
 #define HPLC_VERSION_MAJOR 1
-#define HPLC_VERSION_MINOR 0
+#define HPLC_VERSION_MINOR 1
 #define HPLC_VERSION_PATCH 0
 #define HPLC_VERSION (HPLC_VERSION_MAJOR * 10000 + HPLC_VERSION_MINOR * 100 + HPLC_VERSION_PATCH)
 
@@ -69,6 +69,8 @@ enum hplc_number {
 #define HPLC_FC_BYTES 16
 #define HPLC_FC_ITEMS_BAND_0 3288
 #define HPLC_FC_ITEMS_BAND_1 3144
+#define HPLC_FC_ITEMS_BAND_2 2136
+#define HPLC_FC_ITEMS_BAND_3 1176
 #define HPLC_PAYLOAD_BYTES_MAX 520
 #define HPLC_PAYLOAD_ITEMS_MAX 9864
 
@@ -117,20 +119,23 @@ uint32_t hplc_map(uint64_t modulation, const uint8_t *bits, size_t bits_len, dou
  */
 uint32_t hplc_slice(uint64_t modulation, uint64_t heard, double i, double q, uint8_t *items, size_t items_len, uint64_t value[2]);
 
-/* The place of a sub-carrier in a band's usable list, and back, as value[0]. Refusals 3 for a band, 4 for a number outside it. */
+/*
+ * The place of a sub-carrier in a band's usable list, and back, as value[0]. Bands 0 to 3 are sub-carriers 80 to 490, 100 to 230, 32 to 120
+ * and 72 to 120. Refusals 3 for another band, 4 for a number outside it.
+ */
 uint32_t hplc_place_of_sub_carrier(uint64_t band, uint64_t sub_carrier, uint64_t value[2]);
 uint32_t hplc_sub_carrier_of_place(uint64_t band, uint64_t place, uint64_t value[2]);
 
 /*
- * The items of a frame control: HPLC_FC_BYTES in, HPLC_FC_ITEMS_BAND_0 or HPLC_FC_ITEMS_BAND_1 items out, by symbol, place, I then Q.
- * Refusals 1, 2, 3 (a payload card too), 4, 5.
+ * The items of a frame control: HPLC_FC_BYTES in, HPLC_FC_ITEMS_BAND_0 to HPLC_FC_ITEMS_BAND_3 items out by the card's band, by symbol,
+ * place, I then Q. Refusals 1, 2, 3 (a payload card too), 4, 5.
  */
 uint32_t hplc_fc_send(const uint8_t *card, size_t card_len, const uint8_t *word, size_t word_len, uint8_t *items, size_t items_len,
                       uint64_t value[2]);
 
 /*
  * The word of a frame control from all its received items: HPLC_FC_BYTES into `word`. Where twice the altered plus the lost carriers is
- * below 12, it is the word that was sent. Refusals 1, 2, 3 (a payload card too), 4, 5, 6, 7, 8.
+ * below 12 on bands 0 and 1, 7 on band 2 or 3 on band 3, it is the word that was sent. Refusals 1, 2, 3 (a payload card too), 4, 5, 6, 7, 8.
  */
 uint32_t hplc_fc_read(const uint8_t *card, size_t card_len, const uint8_t *items, size_t items_len, uint8_t *word, size_t word_len,
                       uint64_t value[2]);

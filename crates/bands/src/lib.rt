@@ -1,4 +1,4 @@
-// The bands: their numbers, and the two units of a usable list, sub-carriers and places (000, 5.1.4.4).
+// The bands: their numbers, and the two units of a usable list, sub-carriers and places (000, 5.1.4.4; 004 for bands 2 and 3).
 //
 // `place_of` and `sub_carrier_of` are public entries: they take every number and refuse by the table. The rest is internal, and its
 // callers show what it requires.
@@ -27,12 +27,12 @@ pub enum SubCarrierOf {
     Refused(Refusal),
 }
 
-const BANDS: usize = 2;
+const BANDS: usize = 4;
 
 // By band: its first and its last sub-carrier.
-const FIRST: [usize; 2] = [80, 100];
+const FIRST: [usize; 4] = [80, 100, 32, 72];
 
-const LAST: [usize; 2] = [490, 230];
+const LAST: [usize; 4] = [490, 230, 120, 120];
 
 // A band's first sub-carrier.
 fn first_of(band: usize) -> usize
@@ -113,7 +113,7 @@ pub fn sub_carrier_answer(s: SubCarrierOf) -> Answer
 // ---- frame-control symbols
 
 // By band: its frame-control symbols.
-const SYMBOLS: [usize; 2] = [4, 12];
+const SYMBOLS: [usize; 4] = [4, 12, 12, 12];
 
 // The offset of each symbol.
 const OFFSETS: [u8; 12] = [0, 192, 160, 96, 144, 80, 48, 240, 24, 184, 136, 40];

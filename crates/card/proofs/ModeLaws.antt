@@ -23,10 +23,10 @@ module _ (band kind rate modulation : ℕ) where
   rates true e u = let z = eqb-true rate 0 e in (omega arith, λ one. absurd (omega arith))
   rates false e u = let (one, four) = both (eqb rate 1) (eqb kind 4) u in (omega (arith, eqb-true rate 1 one), λ o. eqb-true kind 4 four)
 
-  pub defined-mode : definedMode band kind rate modulation ≡ true → Defined kind rate × (band < 2) × (modulation < 3)
+  pub defined-mode : definedMode band kind rate modulation ≡ true → Defined kind rate × (band < 4) × (modulation < 3)
   unfolding definedMode
   defined-mode e =
-      let b = leb band 1 in
+      let b = leb band 3 in
       let k = leb kind 4 in
       let m = leb modulation 2 in
       let r = eqb rate 0 || eqb rate 1 && eqb kind 4 in
@@ -36,6 +36,6 @@ module _ (band kind rate modulation : ℕ) where
       let (bands, kinds) = both b k two in
       let (low, high) = rates (eqb rate 0) refl rated in (
         record { kind-lt = omega (arith, leb-true kind 4 kinds); rate-lt = low; high-rate = high },
-        omega (arith, leb-true band 1 bands),
+        omega (arith, leb-true band 3 bands),
         omega (arith, leb-true modulation 2 modulations),
       )

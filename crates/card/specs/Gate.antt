@@ -30,6 +30,6 @@ pub record Served (first last : ℕ) (c : Card) : Type 0 where
   pub kinds : Defined (c .kind) (c .rate)
   pub from-first : first ≤ c .kind
   pub to-last : c .kind ≤ last
-  pub band-lt : c .band < 2
+  pub band-lt : c .band < 4
   pub modulation-lt : c .modulation < 3
   pub taps-lt : c .taps < 2 ^ 11

@@ -15,10 +15,10 @@ blockBytes kind = getD (16 ∷ 72 ∷ 136 ∷ 264 ∷ 520 ∷ []) kind 0
 abbrev pub carrierBits : ℕ → ℕ
 carrierBits modulation = getD (1 ∷ 2 ∷ 4 ∷ []) modulation 0
 
--- the defined modes: band 0 or 1; kind 0 to 4; modulation 0 to 2; rate 0, or 1 with kind 4; kind 0 only with QPSK
+-- the defined modes: band 0 to 3; kind 0 to 4; modulation 0 to 2; rate 0, or 1 with kind 4; kind 0 only with QPSK
 unfoldable pub definedMode : ℕ → ℕ → ℕ → ℕ → Bool
 definedMode band kind rate modulation =
-    leb band 1 && leb kind 4 && leb modulation 2 && (eqb rate 0 || eqb rate 1 && eqb kind 4) && (not (eqb kind 0) || eqb modulation 1)
+    leb band 3 && leb kind 4 && leb modulation 2 && (eqb rate 0 || eqb rate 1 && eqb kind 4) && (not (eqb kind 0) || eqb modulation 1)
 
 abbrev pub defined : Card → Bool
 defined c = definedMode (c .band) (c .kind) (c .rate) (c .modulation)

@@ -121,7 +121,7 @@ fn modulation_serves(kind: u64, modulation: u64) -> bool
 fn is_defined(band: u64, kind: u64, rate: u64, modulation: u64) -> bool
     ensures { λ r. ⌜ r ≡ definedMode band kind rate modulation ⌝ }
 {
-    if 1 < band {
+    if 3 < band {
         return false;
     }
     if 4 < kind {

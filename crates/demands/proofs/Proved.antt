@@ -1,5 +1,5 @@
 -- The demands, proved from what the crates have. Assumes nothing.
-use mathlib.Core.List.{List, _++_}
+use mathlib.Core.List.{List, [], _∷_, _++_}
 use mathlib.Core.Path.{_≡_, refl, sym, ap, _∙_}
 use Prim.Native.Nat.{ℕ, _*_}
 use native.Mathlib.Nat.{mul-assoc, mul-comm}
@@ -13,7 +13,6 @@ use Rattle.slicing.specs.Carriers.{throughPoints}
 use Rattle.slicing.proofs.RoundTrip.{list-back}
 use Rattle.bands.specs.Bands.{bandCount, carriers, offsets}
 use Rattle.diversity.specs.Lanes.{carrierCount, itemCount}
-use Rattle.diversity.specs.Copies.{bandFewest, bandMost}
 use Rattle.frame_control.specs.Entries.{carriersOf, offsetsOf, itemCountOf, tapsOf, wordRows, readRows, sentItem, send, read}
 use Rattle.frame_control.specs.Words.{made}
 use Rattle.frame_control.proofs.FrameLaws.{send-good, made-is, clean, comes-back, refused-at-limit, made-length, made-binary}
@@ -26,7 +25,7 @@ use Rattle.card.proofs.GateLaws.{gate-served}
 use Rattle.card.proofs.RoundTrip.{write-after-read, read-after-write}
 use Rattle.constellation.specs.Entries.{mapRows, mapOutcome}
 use Rattle.slicing.specs.Entries.{sliceRows, sliceOutcome}
-use Rattle.diversity.proofs.BandLaws.{band-range, fewest-of}
+use Rattle.diversity.proofs.BandLaws.{band-range, band-fewest-met, band-most-met, fewest-of}
 use Rattle.payload_layout.specs.Items.{sentOn}
 use Rattle.payload_layout.proofs.ItemLaws.{sent-carries}
 use Rattle.payload_layout.specs.Layouts.{symbolBits, layoutFor, layoutOf, items}
@@ -94,14 +93,10 @@ clean-return card word good is out back room space = (clean card word good is ou
 -- ---- Demand 3
 
 pub lanes : Lanes
-lanes band h b l =
-    let (least, most) = band-range band h b l in
-    let fewest = agree bandCount (λ band. 12) bandFewest tt band h in
-    let greatest = agree bandCount bandMost (λ band. 13) tt band h in
-    (omega (arith, least, fewest), omega (arith, most, greatest))
+lanes band h = record { between = band-range band h; fewest-met = band-fewest-met band h; most-met = band-most-met band h }
 
 pub fewest : Fewest
-fewest band h = fewest-of band h ∙ agree bandCount bandFewest (λ band. 12) tt band h
+fewest = fewest-of
 
 pub survives : Survives
 survives card word good is out items back room space damage h = comes-back card word good is out items back room damage space h
@@ -130,8 +125,7 @@ payload-survives card block good is out received back room damage space few = pa
 pub lengths : Lengths
 unfolding itemCount carrierCount carriers offsets
 lengths = (
-  refl,
-  refl,
+  agree bandCount _ _ tt,
   λ card good.
       let c = cardOf card in
       let served = gate-served 1 4 card c good in

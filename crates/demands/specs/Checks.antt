@@ -1,4 +1,5 @@
--- The bench checks of paper 01 that are marked P: what the rules give beside what the paper prints, under one claim. Assumes nothing.
+-- The bench checks of paper 01 that are marked P, and copies on the bands of paper 02: what the rules give beside what the papers print,
+-- under one claim. Assumes nothing.
 use mathlib.Core.List.{List, [], _∷_}
 use mathlib.Core.Path.{_≡_, refl}
 use Prim.{Unit}
@@ -67,6 +68,9 @@ checks =
     -- P9 and P10: copies on bands 0 and 1
     ∷ (lanesOf 0 0 ∷ lanesOf 0 27 ∷ [], 13 ∷ 12 ∷ [])
     ∷ (lanesOf 1 0 ∷ lanesOf 1 3 ∷ [], 13 ∷ 12 ∷ [])
+    -- and on bands 2 and 3: a bit with the fewest and one with the most
+    ∷ (lanesOf 2 1 ∷ lanesOf 2 56 ∷ [], 7 ∷ 10 ∷ [])
+    ∷ (lanesOf 3 1 ∷ lanesOf 3 48 ∷ [], 3 ∷ 7 ∷ [])
     -- P11: the example card, read and printed
     ∷ (numbers (readCard exampleCard), 0 ∷ 1 ∷ 0 ∷ 4 ∷ 1 ∷ 1 ∷ 0b10001000111 ∷ 0 ∷ 9_007_199_254_740_993 ∷ [])
     ∷ (
@@ -84,4 +88,4 @@ Agree (row ∷ rows) = (row .0 ≡ row .1) × Agree rows
 
 pub checks-agree : Agree checks
 unfolding cardText cardLines modeLines decimal binary places lowest tabulate readCard cardOf definedMode field pack byteOf bitOf feedback shifted afterShifts scramblerBit startOf sourcePair offsets carriers carrierCount itemCount laneBit carries copies copiesOf sum count sourcePairBy plus layoutOf layoutFor padBits symbolCount symbolBits
-checks-agree = (refl, (refl, (refl, (refl, (refl, (refl, (refl, (refl, (refl, (refl, (refl, (refl, (refl, (refl, tt))))))))))))))
+checks-agree = (refl, (refl, (refl, (refl, (refl, (refl, (refl, (refl, (refl, (refl, (refl, (refl, (refl, (refl, (refl, (refl, tt))))))))))))))))

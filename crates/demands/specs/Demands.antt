@@ -1,5 +1,5 @@
 -- The three demands, over the same outcome definitions that the entries' contracts cite. proofs/Proved.antt proves each. Assumes nothing.
-use mathlib.Core.List.{List, _++_}
+use mathlib.Core.List.{List, [], _∷_, _++_}
 use mathlib.Core.Path.{_≡_}
 use Prim.Native.Nat.{ℕ, _+_, _*_, _^_, _≤_, _<_}
 use lib.Dec.{T}
@@ -25,7 +25,7 @@ use Rattle.votes.specs.Votes.{copies, wrongCopies, lostCopies}
 use Rattle.votes.specs.Damage.{Damage, altered, lost}
 use Rattle.bands.specs.Bands.{bandCount, carriers, offsets}
 use Rattle.diversity.specs.Lanes.{laneBit, carrierCount, itemCount}
-use Rattle.diversity.specs.Copies.{copiesOf, fewestCopies}
+use Rattle.diversity.specs.Copies.{copiesOf, fewestCopies, bandFewest, bandMost}
 use Rattle.payload_layout.specs.Layouts.{items as itemsOf}
 use Rattle.payload_layout.specs.Items.{carries}
 use Rattle.payload.specs.Entries.{layoutOfCard, send as payloadSend, read as payloadRead}
@@ -94,28 +94,32 @@ CardReadAgain = (c : Card) → c .serial < 2 ^ 64 → (out : List ℕ) → write
 
 -- ---- Demand 3: how much damage a frame control survives
 
--- On bands 0 and 1 each of the 256 coded bits has at least 12 and at most 13 lanes, its copies.
-abbrev pub Lanes : Type 0
-Lanes =
-    (band : ℕ) → band < bandCount → (b : ℕ) → b < 256
-    → (12 ≤ copiesOf (carriers band) (offsets band) b) × (copiesOf (carriers band) (offsets band) b ≤ 13)
+-- Each of a band's 256 coded bits has so many lanes, its copies: 12 to 13 on bands 0 and 1, 7 to 10 on band 2, 3 to 7 on band 3. Some bit
+-- has the fewest, and some the most.
+pub record LanesOn (band : ℕ) : Type 0 where
+  pub between : (b : ℕ) → b < 256 → (bandFewest band ≤ copiesOf (carriers band) (offsets band) b) × (copiesOf (carriers band) (offsets band) b ≤ bandMost band)
+  pub fewest-met : (b : ℕ) × (b < 256) × (copiesOf (carriers band) (offsets band) b ≡ bandFewest band)
+  pub most-met : (b : ℕ) × (b < 256) × (copiesOf (carriers band) (offsets band) b ≡ bandMost band)
 
--- The fewest lanes of a bit are 12 on both.
+abbrev pub Lanes : Type 0
+Lanes = (band : ℕ) → band < bandCount → LanesOn band
+
+-- The fewest lanes of a bit are 12, 12, 7 and 3 on bands 0 to 3.
 abbrev pub Fewest : Type 0
-Fewest = (band : ℕ) → band < bandCount → fewestCopies (carriers band) (offsets band) ≡ 12
+Fewest = (band : ℕ) → band < bandCount → fewestCopies (carriers band) (offsets band) ≡ bandFewest band
 
 -- twice the altered plus the lost carriers of a reception, held against what was made
 abbrev pub damageWeight : List ℕ → List ℕ → List ℕ → ℕ
 damageWeight card sent items = 2 * altered (carrierCount (carriersOf card) (offsetsOf card)) sent items + lost (carrierCount (carriersOf card) (offsetsOf card)) sent items
 
--- Below the fewest lanes of a bit the word comes back exact.
+-- Below the fewest lanes of a bit, which are 12, 12, 7 and 3 on bands 0 to 3, the word comes back exact.
 abbrev pub Survives : Type 0
 Survives =
     (card word : List ℕ) → GoodCard card → Word word → (out items back : List ℕ) → itemCountOf card ≤ length out → 16 ≤ length back
     → Damage (itemCountOf card) items → damageWeight card (made card word out) items < fewestCopies (carriersOf card) (offsetsOf card)
     → read card items back ≡ record { report = done 16; out = word ++ drop 16 back }
 
--- For every good card and word some damage of exactly that number is refused with 7.
+-- For every good card and word some damage of exactly that number, 12, 12, 7 or 3, is refused with 7.
 abbrev pub BestPossible : Type 0
 BestPossible =
     (card word : List ℕ) → GoodCard card → Word word → (out back : List ℕ) → itemCountOf card ≤ length out → 16 ≤ length back
@@ -138,5 +142,5 @@ PayloadSurvives =
 -- The lengths that a caller makes room for: the items of a frame control by band, and the most items and bytes of a payload.
 abbrev pub Lengths : Type 0
 Lengths =
-    (itemCount (carriers 0) (offsets 0) ≡ 3288) × (itemCount (carriers 1) (offsets 1) ≡ 3144)
+    ((band : ℕ) → band < bandCount → itemCount (carriers band) (offsets band) ≡ getD (3288 ∷ 3144 ∷ 2136 ∷ 1176 ∷ []) band 0)
     × ((card : List ℕ) → GoodPayloadCard card → (itemsOf (layoutOfCard card) ≤ 9864) × (blockBytes (cardOf card .kind) ≤ 520))

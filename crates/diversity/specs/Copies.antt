@@ -28,7 +28,7 @@ mostCopies carriers offsets = leastBy (λ a b. ltb b a) 255 (copiesOf carriers o
 
 -- what they are on each band
 abbrev pub bandFewest : ℕ → ℕ
-bandFewest band = getD (12 ∷ 12 ∷ []) band 0
+bandFewest band = getD (12 ∷ 12 ∷ 7 ∷ 3 ∷ []) band 0
 
 abbrev pub bandMost : ℕ → ℕ
-bandMost band = getD (13 ∷ 13 ∷ []) band 0
+bandMost band = getD (13 ∷ 13 ∷ 10 ∷ 7 ∷ []) band 0

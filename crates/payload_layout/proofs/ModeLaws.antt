@@ -1,4 +1,4 @@
--- The layouts of the defined modes of bands 0 and 1, by computed tests over the modes: the pad is within the coded data, so that refusal 9
+-- The layouts of the defined modes of all bands, by computed tests over the modes: the pad is within the coded data, so that refusal 9
 -- is never given, and the most items. Assumes nothing.
 use mathlib.Core.Bool.{Bool}
 use mathlib.Core.List.{[], _∷_}

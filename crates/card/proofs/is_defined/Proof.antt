@@ -8,7 +8,7 @@ use Rattle.card.proofs.is_defined.Tie as tie
 
 returns : tie.Need-returns
 unfolding definedMode
-returns c = simp (lt-leb _ _ (c .if1 .taken))
+returns c = simp (lt-leb _ 3 (c .if1 .taken))
 
 returns-2 : tie.Need-returns-2
 unfolding definedMode
