@@ -54,7 +54,7 @@ mode() {
 }
 
 sizes=(16 72 136 264 520)
-for band in 0 1 2; do
+for band in 0 1 2 3; do
   mode 16 $band 0 0 1
   for kind in 1 2 3 4 5; do
     for modulation in 0 1 2; do

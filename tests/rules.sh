@@ -1,25 +1,29 @@
 #!/usr/bin/env bash
-# The tables of docs/RULES.md are those of the definitions: M, N and S of each size, Table 11, and the symbols' offsets.
+# The tables of docs/RULES.md are those of the definitions: M, N and S of each size, Table 11, the bands and the symbols' offsets. So
+# is the table of bands in docs/CLASS.md, and the items that include/hplc.h prints for each.
 set -u
 cd "$(dirname "$0")/.." || exit 1
 bad=0
 
-# numbers CRATE NAME: what the list of a definition holds, between spaces.
+# numbers CRATE NAME: what the list of a definition holds, between spaces. NAME has the arguments too.
 numbers() {
-  find "crates/$1/specs" -name '*.antt' -exec cat {} + | awk -v name="$2" '
-    $1 == name && $2 == "=" { on = 1; sub(/^[^=]*=/, "") }
+  find "crates/$1/specs" -name '*.antt' -exec cat {} + | awk -v start="$2 =" '
+    index($0, start) == 1 { on = 1; sub(/^[^=]*=/, "") }
+    on && sub(/\[\].*/, "") { text = text " " $0; on = 0 }
     on { text = text " " $0 }
-    /\[\]/ { on = 0 }
     END { gsub(/0b/, "", text); gsub(/[^0-9]+/, " ", text); gsub(/^ | $/, "", text); print text }'
 }
 
 # row PATTERN COLUMN: a column of the row of docs/RULES.md that starts so.
 row() { awk -F ' *[|] *' -v column="$2" -v start="$1" 'index($0, start) == 1 { print $column; exit }' docs/RULES.md; }
 
+# bands_of DOCUMENT: the rows of its table of bands.
+bands_of() { awk '/^\| Band \|/ { on = 1 } on && !NF { exit } on && /^\| [0-9]/' "$1"; }
+
 # same NAME A B: two texts that must be equal, and not empty.
 same() {
   if [ -z "$2" ] || [ "$2" != "$3" ]; then
-    printf '%s: %s in docs/RULES.md, %s in the definitions\n' "$1" "$2" "$3"
+    printf '%s: %s printed, %s in the definitions\n' "$1" "$2" "$3"
     bad=1
   fi
 }
@@ -41,6 +45,22 @@ for bytes in 16 72 136 264 520; do
 done
 same 'offset at 16/18' "$(row '| 520 | 16/18 |' 4)" "${offset[5]}"
 same 'step at 16/18' "$(row '| 520 | 16/18 |' 5)" "${step[5]}"
-symbols=$(tr '\n' ' ' < docs/RULES.md | sed -nE 's/.*The offsets are ([0-9, ]+)\..*/\1/p')
-same "the symbols' offsets" "${symbols//,/}" "$(numbers bands symbolOffsets)"
+read -ra first <<< "$(numbers bands 'firstSubCarrier band')"
+read -ra last <<< "$(numbers bands 'lastSubCarrier band')"
+read -ra symbols <<< "$(numbers bands 'symbols band')"
+read -ra fewest <<< "$(numbers diversity 'bandFewest band')"
+read -ra most <<< "$(numbers diversity 'bandMost band')"
+bands=
+limits=
+for band in "${!first[@]}"; do
+  carriers=$((last[band] - first[band] + 1))
+  items=$((2 * symbols[band] * carriers))
+  bands+="| $band | ${first[band]} | ${last[band]} | $carriers | ${symbols[band]} | $items | ${fewest[band]} | ${most[band]} |"$'\n'
+  limits+="| $band | ${first[band]} to ${last[band]} | ${symbols[band]} | ${fewest[band]} to ${most[band]} | ${fewest[band]} |"$'\n'
+  same "HPLC_FC_ITEMS_BAND_$band" "$(sed -n "s/^#define HPLC_FC_ITEMS_BAND_$band //p" include/hplc.h)" "$items"
+done
+same 'the bands of docs/RULES.md' "$(bands_of docs/RULES.md)"$'\n' "$bands"
+same 'the bands of docs/CLASS.md' "$(bands_of docs/CLASS.md)"$'\n' "$limits"
+printed=$(tr '\n' ' ' < docs/RULES.md | sed -nE 's/.*The offsets are ([0-9, ]+), on band 0 .*/\1/p')
+same "the symbols' offsets" "${printed//,/}" "$(numbers bands symbolOffsets)"
 exit "$bad"

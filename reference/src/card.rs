@@ -3,6 +3,7 @@
 //! The first three bytes hold, from the left, version 4 bits, band 2, kind 3, rate 1,
 //! modulation 2, taps 11 and spare 1. The last eight bytes hold the serial.
 
+use crate::carriers::BANDS;
 use crate::{number, Report};
 
 /// Length of a card in bytes.
@@ -81,10 +82,10 @@ impl Fields {
     }
 }
 
-/// "Defined modes": band 0 or 1; kind 0 to 4; modulation 0 to 2; rate 1 only with kind 4; kind 0
-/// only with QPSK. A value too large for its bits is never part of a defined mode.
+/// "Defined modes": any of the bands; kind 0 to 4; modulation 0 to 2; rate 1 only with kind 4; kind
+/// 0 only with QPSK. A value too large for its bits is never part of a defined mode.
 fn mode_is_defined(band: u64, kind: u64, rate: u64, modulation: u64) -> bool {
-    band <= 1
+    band < BANDS.len() as u64
         && kind <= 4
         && rate <= 1
         && modulation <= 2
@@ -213,8 +214,7 @@ mod tests {
             };
             let expected = if fields.version != 1 || fields.spare != 0 {
                 2
-            } else if fields.band > 1
-                || fields.kind > 4
+            } else if fields.kind > 4
                 || fields.modulation > 2
                 || (fields.rate == 1 && fields.kind != 4)
                 || (fields.kind == 0 && fields.modulation != 1)
@@ -271,7 +271,9 @@ mod tests {
             }),
             2
         );
-        assert_eq!(written(Fields { band: 4, ..GOOD }), 3);
+        for (band, expected) in [(1, 0), (2, 0), (3, 0), (4, 3), (5, 3), (1 << 32, 3)] {
+            assert_eq!(written(Fields { band, ..GOOD }), expected);
+        }
         assert_eq!(written(Fields { kind: 8, ..GOOD }), 3);
         assert_eq!(written(Fields { rate: 2, ..GOOD }), 3);
         assert_eq!(
@@ -285,13 +287,6 @@ mod tests {
         assert_eq!(
             written(Fields {
                 taps: u64::MAX,
-                ..GOOD
-            }),
-            3
-        );
-        assert_eq!(
-            written(Fields {
-                band: 1 << 32,
                 ..GOOD
             }),
             3

@@ -1,4 +1,5 @@
-//! Bands, lanes and the majority (01, "Carriers"; 000, 5.1.4.4 and Table 21; D8, D12, D15).
+//! Bands, lanes and the majority (01, "Carriers"; 02, T-01; 000, 5.1.4.4 and Table 21; 004, 5.1.4.4
+//! and 5.1.7.4; D8, D12, D15, D25).
 
 use crate::{number, Report};
 
@@ -10,34 +11,28 @@ pub struct SubCarrier(pub u64);
 #[derive(Clone, Copy, Debug, PartialEq, Eq)]
 pub struct Place(pub u64);
 
-/// A band: its first sub-carrier, how many it has, and its frame-control symbols.
+/// A band: its first sub-carrier, how many it has, its frame-control symbols, and the fewest copies
+/// that a coded bit of these has, which is the number of demand 3.
 #[derive(Clone, Copy, Debug, PartialEq, Eq)]
 pub struct Band {
     pub first: u16,
     pub places: usize,
     pub symbols: usize,
+    pub fewest_copies: usize,
 }
 
-/// Band 0 has the sub-carriers 80 to 490, band 1 those from 100 to 230.
-pub const BANDS: [Band; 2] = [
-    Band {
-        first: 80,
-        places: 411,
-        symbols: 4,
-    },
-    Band {
-        first: 100,
-        places: 131,
-        symbols: 12,
-    },
+/// The bands by their numbers, each with its first and last sub-carrier.
+pub const BANDS: [Band; 4] = [
+    Band::new(80, 490, 4, 12),
+    Band::new(100, 230, 12, 12),
+    Band::new(32, 120, 12, 7),
+    Band::new(72, 120, 12, 3),
 ];
 
+/// The band of a number; 3 where none is defined.
 fn band(number: u64) -> Result<Band, Report> {
-    match number {
-        0 => Ok(BANDS[0]),
-        1 => Ok(BANDS[1]),
-        _ => Err(Report::refused(number::MODE, 0)),
-    }
+    let band = usize::try_from(number).ok().and_then(|n| BANDS.get(n));
+    band.copied().ok_or(Report::refused(number::MODE, 0))
 }
 
 /// The place of a sub-carrier in a band; 3 for an undefined band, 4 with a number outside it.
@@ -73,6 +68,15 @@ pub fn lanes(symbol: usize, place: usize) -> (u8, u8) {
 }
 
 impl Band {
+    const fn new(first: u16, last: u16, symbols: usize, fewest_copies: usize) -> Band {
+        Band {
+            first,
+            places: (last - first + 1) as usize,
+            symbols,
+            fewest_copies,
+        }
+    }
+
     /// The items of a frame control.
     pub const fn frame_control_items(&self) -> usize {
         2 * self.places * self.symbols
@@ -89,6 +93,13 @@ impl Band {
                 item += 2;
             }
         }
+    }
+
+    /// How many copies each coded bit of a frame control has.
+    pub fn copies(&self) -> [usize; FRAME_CONTROL_BITS] {
+        let mut copies = [0; FRAME_CONTROL_BITS];
+        self.for_each_lane(|_, bit| copies[bit] += 1);
+        copies
     }
 }
 
@@ -147,7 +158,7 @@ mod tests {
 
     #[test]
     fn places_and_sub_carriers() {
-        for (number, first, last) in [(0, 80, 490), (1, 100, 230)] {
+        for (number, first, last) in [(0, 80, 490), (1, 100, 230), (2, 32, 120), (3, 72, 120)] {
             for sub in 0..1000 {
                 let place = place_of(number, SubCarrier(sub));
                 if (first..=last).contains(&sub) {
@@ -169,7 +180,7 @@ mod tests {
         let top = u64::MAX;
         assert_eq!(place_of(0, SubCarrier(top)), Err(Report::refused(4, top)));
         assert_eq!(sub_carrier_of(1, Place(top)), Err(Report::refused(4, top)));
-        for number in [2, 3, top] {
+        for number in [4, 5, 1 << 32, top] {
             assert_eq!(
                 place_of(number, SubCarrier(9999)),
                 Err(Report::refused(3, 0))
@@ -192,19 +203,14 @@ mod tests {
     }
 
     #[test]
-    fn copies_of_frame_control_bits() {
-        for (band, items, with_twelve) in [(BANDS[0], 3288, 40), (BANDS[1], 3144, 184)] {
-            assert_eq!(band.frame_control_items(), items);
-            let mut copies = [0; FRAME_CONTROL_BITS];
+    fn lanes_are_visited_in_the_order_of_their_items() {
+        for band in &BANDS {
             let mut count = 0;
-            band.for_each_lane(|item, bit| {
+            band.for_each_lane(|item, _| {
                 assert_eq!(item, count);
                 count += 1;
-                copies[bit] += 1;
             });
-            assert_eq!(count, items);
-            assert!(copies.iter().all(|&n| n == 12 || n == 13));
-            assert_eq!(copies.iter().filter(|&&n| n == 12).count(), with_twelve);
+            assert_eq!(count, band.frame_control_items());
         }
     }
 

@@ -4,7 +4,7 @@
 use std::ops::Range;
 
 use crate::card::{self, Card, Fields, CARD_BYTES};
-use crate::carriers::{self, Band, BANDS};
+use crate::carriers::{self, Band, BANDS, FRAME_CONTROL_BITS};
 use crate::interface::Entry;
 use crate::interleaver::{self, coded_bits, data_bits};
 use crate::{points, turbo, Report};
@@ -101,11 +101,17 @@ pub struct Mode {
     pub modulation: u8,
 }
 
+/// The frame controls of all bands.
+pub fn frame_controls() -> impl Iterator<Item = Mode> {
+    (0..BANDS.len()).map(|band| Mode::frame_control(band as u8))
+}
+
 /// All defined modes: on each band one of frame control and fifteen of payload.
 pub fn modes() -> Vec<Mode> {
     let mut modes = Vec::new();
-    for band in 0..2 {
-        modes.push(Mode::frame_control(band));
+    for frame_control in frame_controls() {
+        let band = frame_control.band;
+        modes.push(frame_control);
         for (kind, rate) in &CODINGS[1..] {
             modes.extend((0..3).map(|modulation| Mode::new(band, *kind, *rate, modulation)));
         }
@@ -213,6 +219,23 @@ impl Mode {
             }
         });
         copies
+    }
+
+    /// The carriers of a frame control that carry a coded bit, rising.
+    pub fn carriers(&self, bit: usize) -> Vec<usize> {
+        self.copies(bit).iter().map(|item| item / 2).collect()
+    }
+
+    /// The fewest copies that a bit of the band's frame control has.
+    pub const fn fewest_copies(&self) -> usize {
+        self.band().fewest_copies
+    }
+
+    /// The bits of the band's frame control that have the fewest copies, rising.
+    pub fn rarest_bits(&self) -> Vec<usize> {
+        let copies = self.band().copies();
+        let rarest = |bit: &usize| copies[*bit] == self.fewest_copies();
+        (0..FRAME_CONTROL_BITS).filter(rarest).collect()
     }
 
     /// The coded bits that are data, or else those that are parity.
@@ -384,11 +407,13 @@ mod tests {
     }
 
     #[test]
-    fn there_are_32_modes_and_each_has_a_card() {
+    fn there_are_64_modes_and_each_has_a_card() {
         let modes = modes();
-        assert_eq!(modes.len(), 32);
-        for mode in modes {
-            assert_eq!(Mode::of(&mode.card(2047, 5)), Some(mode));
+        assert_eq!(modes.len(), 64);
+        for (n, mode) in modes.iter().enumerate() {
+            assert_eq!(usize::from(mode.band), n / 16);
+            assert_eq!(Mode::of(&mode.card(2047, 5)), Some(*mode));
+            assert!(!modes[..n].contains(mode));
         }
     }
 
@@ -416,9 +441,10 @@ mod tests {
     #[test]
     fn damage_does_what_it_says() {
         let mut random = Random::new(3);
-        for band in 0..2 {
-            let mut reception = Reception::random(Mode::frame_control(band), &mut random);
-            reception.damage_bit(77, 3, 2, &mut random);
+        for mode in frame_controls() {
+            let mut reception = Reception::random(mode, &mut random);
+            let wrong = mode.fewest_copies() - 2;
+            reception.damage_bit(77, wrong, 2, &mut random);
             let changes = |reception: &Reception| {
                 let pairs = reception.items.iter().zip(&reception.sent);
                 let wrong = pairs.filter(|(a, b)| **a < 2 && a != b).count();
@@ -427,7 +453,7 @@ mod tests {
                     reception.items.iter().filter(|&&item| item == 2).count(),
                 )
             };
-            assert_eq!(changes(&reception), (3, 2));
+            assert_eq!(changes(&reception), (wrong, 2));
             reception.items = reception.sent.clone();
             reception.damage_carriers(&[5, 6, 7, 8], 0, 3, &mut random);
             let (wrong, lost) = changes(&reception);

@@ -195,6 +195,6 @@ mod tests {
         let found = sub_carrier_of_place(1, 130);
         assert_eq!((found.number, found.value, found.second), (0, 230, 0));
         assert_eq!(sub_carrier_of_place(1, 131), Report::refused(4, 131));
-        assert_eq!(place_of_sub_carrier(2, 131), Report::refused(3, 0));
+        assert_eq!(place_of_sub_carrier(4, 131), Report::refused(3, 0));
     }
 }

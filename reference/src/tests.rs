@@ -1,18 +1,22 @@
-//! The bench checks P1 to P12 of 01, and the entries in all defined modes.
+//! The bench checks P1 to P12 of 01, the narrow bands of 02 (T-01), and the entries in all defined
+//! modes.
 
 use crate::card;
 use crate::carriers::{self, BANDS};
-use crate::cases::{modes, Mode, Random, EXAMPLE, TAPS};
-use crate::interface::Entry;
+use crate::cases::{
+    altered_and_lost, frame_controls, modes, Mode, Random, Reception, EXAMPLE, TAPS,
+};
+use crate::interface::{place_of_sub_carrier, sub_carrier_of_place, Entry};
 use crate::scrambler::{scramble, Scrambler};
 use crate::turbo::{interleaved_from, SIZES};
 use crate::{interleaver, turbo, Report};
 
 const SERIAL: u64 = 0xFEDC_BA98_7654_3210;
 
-/// The coded bit of every item, straight from 01.
+/// The coded bit of every item, straight from 01 and 02 (T-01).
 fn item_bits(mode: Mode) -> Vec<usize> {
-    let (places, symbols) = if mode.band == 0 { (411, 4) } else { (131, 12) };
+    let bands = [(411, 4), (131, 12), (89, 12), (49, 12)];
+    let (places, symbols) = bands[usize::from(mode.band)];
     if mode.kind > 0 {
         let coded = match mode.rate {
             0 => 16 * [16, 72, 136, 264, 520][usize::from(mode.kind)],
@@ -156,9 +160,7 @@ fn p8_lanes_of_symbol_1_place_410() {
 }
 
 fn copies(band: usize, bit: usize) -> usize {
-    let mut count = 0;
-    BANDS[band].for_each_lane(|_, carried| count += usize::from(carried == bit));
-    count
+    BANDS[band].copies()[bit]
 }
 
 #[test]
@@ -172,6 +174,56 @@ fn p10_copies_on_band_1() {
 }
 
 #[test]
+fn copies_on_the_narrow_bands() {
+    assert_eq!((copies(2, 1), copies(2, 56)), (7, 10));
+    assert_eq!((copies(3, 1), copies(3, 48)), (3, 7));
+}
+
+#[test]
+fn fewest_and_most_copies_of_each_band() {
+    // By band: fewest, most, and how many bits have the fewest (02, T-01; D16).
+    let known = [(12, 13, 40), (12, 13, 184), (7, 10, 70), (3, 7, 58)];
+    for (mode, (fewest, most, with_fewest)) in frame_controls().zip(known) {
+        let bits = item_bits(mode);
+        let copies = BANDS[usize::from(mode.band)].copies();
+        for (bit, &count) in copies.iter().enumerate() {
+            assert_eq!(
+                bits.iter().filter(|&&carried| carried == bit).count(),
+                count
+            );
+            assert_eq!(mode.carriers(bit), mode.carriers((bit + 128) % 256));
+        }
+        assert_eq!(copies.iter().min(), Some(&fewest));
+        assert_eq!(copies.iter().max(), Some(&most));
+        assert_eq!(mode.fewest_copies(), fewest);
+        assert_eq!(mode.rarest_bits().len(), with_fewest);
+    }
+}
+
+#[test]
+fn ends_of_the_narrow_bands() {
+    let place = |band, sub_carrier| {
+        let report = place_of_sub_carrier(band, sub_carrier);
+        (report.number, report.value)
+    };
+    let sub_carrier = |band, place| {
+        let report = sub_carrier_of_place(band, place);
+        (report.number, report.value)
+    };
+    assert_eq!((place(2, 32), place(2, 120)), ((0, 0), (0, 88)));
+    assert_eq!((place(2, 31), place(2, 121)), ((4, 31), (4, 121)));
+    assert_eq!((sub_carrier(2, 0), sub_carrier(2, 88)), ((0, 32), (0, 120)));
+    assert_eq!(sub_carrier(2, 89), (4, 89));
+    assert_eq!((place(3, 72), place(3, 120)), ((0, 0), (0, 48)));
+    assert_eq!((place(3, 71), place(3, 121)), ((4, 71), (4, 121)));
+    assert_eq!(
+        (sub_carrier(3, 48), sub_carrier(3, 49)),
+        ((0, 120), (4, 49))
+    );
+    assert_eq!((place(4, 100), sub_carrier(4, 0)), ((3, 0), (3, 0)));
+}
+
+#[test]
 fn p11_the_card_of_the_example() {
     let bytes = [0x12, 0x58, 0x8E, 0x00, 0x20, 0, 0, 0, 0, 0, 1];
     let text = "version 1\nband 0\nkind 4\nrate 1\nmodulation 1\ntaps 10001000111\n\
@@ -180,11 +232,17 @@ fn p11_the_card_of_the_example() {
     let mut out = [0; 11];
     assert_eq!(card::write(&EXAMPLE, &mut out), Report::done(11));
     assert_eq!(out, bytes);
-    // Refused cards print their number alone: band 2, kind 5, version 2, spare 1.
-    for (index, byte, expected) in [(0, 0x1A, 3), (1, 0xD8, 3), (0, 0x22, 2), (2, 0x8F, 2)] {
-        let mut bad = bytes;
-        bad[index] = byte;
-        assert_eq!(card::text(&bad), format!("refused {expected}\n"));
+    let with = |index: usize, byte| {
+        let mut other = bytes;
+        other[index] = byte;
+        card::text(&other)
+    };
+    for (byte, band) in [(0x16, "band 1"), (0x1A, "band 2"), (0x1E, "band 3")] {
+        assert_eq!(with(0, byte), text.replace("band 0", band));
+    }
+    // Refused cards print their number alone: kind 5, version 2, spare 1.
+    for (index, byte, expected) in [(1, 0xD8, 3), (0, 0x22, 2), (2, 0x8F, 2)] {
+        assert_eq!(with(index, byte), format!("refused {expected}\n"));
     }
     assert_eq!(card::text(&bytes[..10]), "refused 1\n");
 }
@@ -248,9 +306,13 @@ fn counts_of_items() {
     let count = |band, kind, rate, modulation| Mode::new(band, kind, rate, modulation).items();
     assert_eq!(count(0, 0, 0, 1), 3288);
     assert_eq!(count(1, 0, 0, 1), 3144);
+    assert_eq!(count(2, 0, 0, 1), 2136);
+    assert_eq!(count(3, 0, 0, 1), 1176);
     assert_eq!(count(0, 4, 1, 1), 4932);
     assert_eq!(count(0, 1, 0, 2), 1644);
     assert_eq!(count(1, 4, 0, 0), 64 * 131);
+    assert_eq!(count(2, 4, 1, 2), 14 * 4 * 89);
+    assert_eq!(count(3, 1, 0, 0), 24 * 49);
 }
 
 #[test]
@@ -293,9 +355,9 @@ fn cards_are_refused_before_all_else() {
         assert_eq!(number(&good[..10]), (1, 10));
         assert_eq!(number(&[0xFF; 12]), (1, 12));
         assert_eq!(number(&[0xFF; 11]), (2, 0));
-        let band_2 = [0x18, 0x10, 0, 0, 0, 0, 0, 0, 0, 0, 0];
+        let modulation_3 = [0x10, 0xB0, 0, 0, 0, 0, 0, 0, 0, 0, 0];
         let kind_5 = [0x12, 0x90, 0, 0, 0, 0, 0, 0, 0, 0, 0];
-        assert_eq!(number(&band_2), (3, 0));
+        assert_eq!(number(&modulation_3), (3, 0));
         assert_eq!(number(&kind_5), (3, 0));
         assert_eq!(number(other), (3, 0));
     }
@@ -436,8 +498,8 @@ fn damage_is_judged_as_the_words_of_01_say() {
 
 #[test]
 fn few_wrong_frame_control_copies_are_outvoted() {
-    for band in 0..2 {
-        let (mode, taps) = (Mode::frame_control(band), 1095);
+    for mode in frame_controls() {
+        let taps = 1095;
         let word: Vec<u8> = (0..16).map(|n| n * 17).collect();
         let sent = sent(mode, taps, &word);
         let bits = item_bits(mode);
@@ -457,6 +519,41 @@ fn few_wrong_frame_control_copies_are_outvoted() {
                     assert_ne!(report.number, 7);
                 }
             }
+        }
+    }
+}
+
+/// The answer to a frame control, and the word.
+fn read_back(reception: &Reception) -> (Report, Vec<u8>) {
+    let mut word = vec![0xA5; 16];
+    let report = Entry::FcRead.call(&reception.card, &reception.items, &mut word);
+    (report, word)
+}
+
+#[test]
+fn demand_3_on_every_band() {
+    let mut random = Random::new(5);
+    for (mode, fewest) in frame_controls().zip([12, 12, 7, 3]) {
+        for bit in 0..256 {
+            for weight in 0..fewest {
+                let mut reception = Reception::random(mode, &mut random);
+                let (altered, lost) = altered_and_lost(weight, &mut random);
+                reception.damage_carriers(&mode.carriers(bit), altered, lost, &mut random);
+                let answer = read_back(&reception);
+                assert_eq!(answer, (Report::done(16), reception.block));
+            }
+        }
+        // It is the best possible: exactly so many lost carriers undo a bit.
+        for bit in mode.rarest_bits() {
+            let mut reception = Reception::random(mode, &mut random);
+            assert_eq!(mode.carriers(bit).len(), fewest);
+            reception.lose_bit(bit);
+            let (report, word) = read_back(&reception);
+            assert_eq!(report, Report::refused(7, bit as u64));
+            assert_eq!(word, [0xA5; 16]);
+            reception.lose_bit((bit + 128) % 256);
+            let (report, _) = read_back(&reception);
+            assert_eq!(report, Report::refused(7, bit as u64 % 128));
         }
     }
 }

@@ -1,5 +1,6 @@
 //! Places and sub-carriers of a band, near it and far from it.
 
+use reference::carriers::BANDS;
 use reference::cases::Random;
 
 use crate::checker::Checker;
@@ -7,28 +8,43 @@ use crate::checker::Checker;
 /// Both calls have this form.
 type Ask = fn(&mut Checker, u64, u64);
 
-/// Numbers at which an answer turns: both bands' ends, as sub-carriers and as places.
-const TURNS: [u64; 8] = [0, 79, 99, 130, 230, 410, 490, 512];
+/// The bands, and the first number that is none.
+const BAND_NUMBERS: u64 = BANDS.len() as u64 + 1;
+
+/// Numbers after which an answer turns: every band's ends, as sub-carriers and as places.
+fn turns() -> Vec<u64> {
+    let mut turns = vec![0, 512];
+    for band in &BANDS {
+        let (first, places) = (u64::from(band.first), band.places as u64);
+        turns.extend([first - 1, places - 1, first + places - 1]);
+    }
+    turns.sort_unstable();
+    turns.dedup();
+    turns
+}
 
 /// Every number up to 1,100 on every band up to 4, and the numbers about each power of two.
 fn systematic(checker: &mut Checker, ask: Ask) {
-    for band in 0..5 {
-        for number in 0..1100 {
+    for band in 0..BAND_NUMBERS {
+        for number in 0..=1100 {
             ask(checker, band, number);
         }
         for power in 8..64 {
-            for low in [80, 100, 230, 490, 0, 130, 410, 411] {
-                ask(checker, band, (1 << power) + low);
-            }
             ask(checker, band, (1 << power) - 1);
+            for low in turns() {
+                ask(checker, band, (1 << power) + low);
+                ask(checker, band, (1 << power) + low + 1);
+            }
         }
         for less in 0..500 {
             ask(checker, band, u64::MAX - less);
         }
     }
     for power in 0..64 {
-        ask(checker, 1 << power, 100);
-        ask(checker, (1 << power) + 1, 100);
+        // Bands of any size, most of them right in their low bits only; all four have this number.
+        for band in 0..BAND_NUMBERS {
+            ask(checker, (1 << power) + band, 100);
+        }
         ask(checker, u64::MAX >> power, 100);
     }
 }
@@ -37,12 +53,12 @@ fn any_band(random: &mut Random) -> u64 {
     if random.once_in(6) {
         random.word_of_any_size()
     } else {
-        random.below(2) as u64
+        random.word() % BAND_NUMBERS
     }
 }
 
 fn any_number(random: &mut Random) -> u64 {
-    let near = random.pick(&TURNS).wrapping_add(random.below(9) as u64);
+    let near = random.pick(&turns()).wrapping_add(random.below(9) as u64);
     match random.below(6) {
         0 => random.word(),
         1 => random.word_of_any_size(),

@@ -1,7 +1,8 @@
 //! Frame control and payload: sent and read, with good and bad cards, lengths, rooms and items.
 
 use reference::card::CARD_BYTES;
-use reference::cases::{altered_and_lost, modes, Mode, Random, Reception, AMPLE};
+use reference::carriers::BANDS;
+use reference::cases::{altered_and_lost, frame_controls, modes, Mode, Random, Reception, AMPLE};
 use reference::interface::Entry;
 use reference::Report;
 
@@ -182,12 +183,13 @@ pub fn lengths_random(checker: &mut Checker) {
 
 // Sending and clean receptions.
 
-/// Every taps on frame control, and single taps with single bits on every mode.
+/// Every taps on every band's frame control, and single taps with single bits on every mode.
 pub fn sending_systematic(checker: &mut Checker) {
-    for taps in 0..2048 {
-        let mode = Mode::frame_control((taps % 2) as u8);
-        let block = checker.random.bytes(mode.bytes());
-        checker.entry(Entry::FcSend, &mode.card(taps, 1), &block, mode.items());
+    for mode in frame_controls() {
+        for taps in 0..2048 {
+            let block = checker.random.bytes(mode.bytes());
+            checker.entry(Entry::FcSend, &mode.card(taps, 1), &block, mode.items());
+        }
     }
     for mode in modes() {
         for taps in TAPS {
@@ -295,8 +297,8 @@ fn about_the_limit(copies: usize, random: &mut Random) -> (usize, usize) {
     (wrong, lost)
 }
 
-/// Every bit of frame control with 5, 6 and 7 wrong copies; on payload every pair of items for
-/// bits with two copies.
+/// Every bit of frame control with about half of its copies wrong; on payload every pair of items
+/// for bits with two copies.
 pub fn limit_systematic(checker: &mut Checker) {
     for mode in modes() {
         let reception = Reception::random(mode, &mut checker.random);
@@ -310,7 +312,8 @@ pub fn limit_systematic(checker: &mut Checker) {
 
 fn limit_of_frame_control(checker: &mut Checker, reception: &Reception) {
     for bit in 0..reception.mode.coded() {
-        for wrong in 5..=7 {
+        let half = reception.mode.copies(bit).len() / 2;
+        for wrong in half - 1..=half + 1 {
             let mut damaged = reception.clone();
             damaged.damage_bit(bit, wrong, 0, &mut checker.random);
             read(checker, &damaged);
@@ -355,7 +358,7 @@ pub fn limit_random(checker: &mut Checker) {
 /// A frame control as the library itself made it, or None where it refused.
 fn made_by_library(checker: &mut Checker) -> Option<Reception> {
     let random = &mut checker.random;
-    let mode = Mode::frame_control(random.below(2) as u8);
+    let mode = Mode::frame_control(random.below(BANDS.len()) as u8);
     let card = mode.card(any_taps(random), random.word());
     let block = any_block(mode.bytes(), random);
     let room = mode.items() + random.below(3);
@@ -375,29 +378,28 @@ fn described(reception: &Reception) -> String {
 
 /// Carriers to damage: those of one bit, of two bits, or all.
 fn carriers_to_damage(mode: Mode, random: &mut Random) -> Vec<usize> {
-    let carriers_of =
-        |bit| -> Vec<usize> { mode.copies(bit).iter().map(|item| item / 2).collect() };
     match random.below(4) {
         0 => (0..mode.items() / 2).collect(),
         1 => {
-            let mut carriers = carriers_of(random.below(256));
-            carriers.extend(carriers_of(random.below(256)));
+            let mut carriers = mode.carriers(random.below(256));
+            carriers.extend(mode.carriers(random.below(256)));
             carriers.sort_unstable();
             carriers.dedup();
             carriers
         }
-        _ => carriers_of(random.below(256)),
+        _ => mode.carriers(random.below(256)),
     }
 }
 
-/// Twice the altered and the lost below 12: it comes back exactly.
+/// Twice the altered and the lost below the band's fewest copies: it comes back exactly.
 pub fn comes_back_random(checker: &mut Checker) {
     let Some(mut reception) = made_by_library(checker) else {
         return;
     };
     let random = &mut checker.random;
-    let any = random.below(12);
-    let weight = random.pick(&[11, 11, 10, any]);
+    let limit = reception.mode.fewest_copies();
+    let any = random.below(limit);
+    let weight = random.pick(&[limit - 1, limit - 1, limit - 2, any]);
     let (altered, lost) = altered_and_lost(weight, random);
     let carriers = carriers_to_damage(reception.mode, random);
     reception.damage_carriers(&carriers, altered, lost, random);
@@ -410,20 +412,24 @@ pub fn comes_back_random(checker: &mut Checker) {
     );
 }
 
-/// All copies of a bit that has exactly 12 lost: refused by 7. The other items of those carriers
-/// all carry the bit 128 further on; where they are lost too, the lower of both bits is named.
+/// All copies of a bit that has the band's fewest lost: refused by 7. The other items of those
+/// carriers all carry the bit 128 further on; where they are lost too, the lower of both is named.
 fn lose_all_copies(checker: &mut Checker, mut reception: Reception, bit: usize) {
     let random = &mut checker.random;
-    let any = random.below(13);
-    let others = random.pick(&[0, 0, 12, any]);
     let copies = reception.mode.copies(bit);
+    let any = random.below(copies.len() + 1);
+    let others = random.pick(&[0, 0, copies.len(), any]);
     for (n, &item) in copies.iter().enumerate() {
         reception.lose(item);
         if n < others {
             reception.lose(item ^ 1);
         }
     }
-    let lowest = if others >= 12 { bit % 128 } else { bit };
+    let lowest = if others == copies.len() {
+        bit % 128
+    } else {
+        bit
+    };
     let room = 16 + random.below(3);
     let (report, _) = checker.entry(Entry::FcRead, &reception.card, &reception.items, room);
     checker.claim(
@@ -433,12 +439,11 @@ fn lose_all_copies(checker: &mut Checker, mut reception: Reception, bit: usize) 
     );
 }
 
-/// Each bit that has exactly 12 copies, on both bands.
+/// Each bit that has the fewest copies, on every band.
 pub fn lost_bit_systematic(checker: &mut Checker) {
-    for band in 0..2 {
-        let mode = Mode::frame_control(band);
+    for mode in frame_controls() {
         let reception = Reception::random(mode, &mut checker.random);
-        for bit in (0..256).filter(|&bit| mode.copies(bit).len() == 12) {
+        for bit in mode.rarest_bits() {
             lose_all_copies(checker, reception.clone(), bit);
         }
     }
@@ -448,12 +453,7 @@ pub fn lost_bit_random(checker: &mut Checker) {
     let Some(reception) = made_by_library(checker) else {
         return;
     };
-    let bit = loop {
-        let bit = checker.random.below(256);
-        if reception.mode.copies(bit).len() == 12 {
-            break bit;
-        }
-    };
+    let bit = checker.random.pick(&reception.mode.rarest_bits());
     lose_all_copies(checker, reception, bit);
 }
 

@@ -2,7 +2,7 @@
 
 use reference::card::{self, pack, Fields};
 use reference::cases::{
-    all_bits, altered_and_lost, modes, Mode, Random, Reception, AMPLE, EXAMPLE,
+    all_bits, altered_and_lost, frame_controls, modes, Mode, Random, Reception, AMPLE, EXAMPLE,
 };
 use reference::interface::{Entry, CARD_FIELDS, COORDINATES};
 
@@ -24,9 +24,9 @@ pub fn records() -> Vec<Record> {
     for (n, mode) in modes().into_iter().enumerate() {
         maker.mode(mode, TAPS[n % TAPS.len()]);
     }
-    for band in 0..2 {
-        maker.demand_3(Mode::frame_control(band));
-        maker.without_taps(Mode::frame_control(band));
+    for mode in frame_controls() {
+        maker.demand_3(mode);
+        maker.without_taps(mode);
     }
     maker.without_taps(modes()[1]);
     maker.cards_at_the_entries();
@@ -116,18 +116,19 @@ impl Maker {
         }
     }
 
-    /// Damage of frame control below the limit of demand 3, at it, and bits that are lost.
+    /// Damage of frame control below the limit of demand 3, at it, and bits that are lost, all of
+    /// bits with the fewest copies.
     fn demand_3(&mut self, mode: Mode) {
         let reception = Reception::random(mode, &mut self.random);
-        for weight in [1, 10, 11, 11, 11, 12, 12] {
-            let bit = self.random.below(256);
-            let carriers: Vec<usize> = mode.copies(bit).iter().map(|item| item / 2).collect();
-            let (altered, lost) = altered_and_lost(weight, &mut self.random);
+        let (limit, rarest) = (mode.fewest_copies(), mode.rarest_bits());
+        for below in [limit - 1, 2, 1, 1, 1, 0, 0] {
+            let carriers = mode.carriers(self.random.pick(&rarest));
+            let (altered, lost) = altered_and_lost(limit - below, &mut self.random);
             let mut damaged = reception.clone();
             damaged.damage_carriers(&carriers, altered, lost, &mut self.random);
             self.read(&damaged);
         }
-        for bit in [27, 99, 155] {
+        for bit in self.random.some_of(&rarest, 3) {
             let mut damaged = reception.clone();
             damaged.lose_bit(bit);
             self.read(&damaged);
@@ -150,8 +151,8 @@ impl Maker {
         for (entry, mode) in [
             (Entry::FcSend, Mode::frame_control(0)),
             (Entry::FcRead, Mode::frame_control(1)),
-            (Entry::PayloadSend, modes()[1]),
-            (Entry::PayloadRead, modes()[4]),
+            (Entry::PayloadSend, Mode::new(2, 1, 0, 0)),
+            (Entry::PayloadRead, Mode::new(3, 2, 0, 0)),
         ] {
             let call = Call::Entry(entry);
             for card in spoilt_cards(mode.fields(731, 99)) {
@@ -253,16 +254,20 @@ impl Maker {
     }
 }
 
-/// Damage that leaves each bit a right majority: of frame control some copies of some bits, of
-/// payload one of the two copies of some bits.
+/// Damage that leaves each bit a right majority: of frame control fewer copies of some bits than
+/// undo them, of payload one of the two copies of some bits.
 fn decided(reception: &mut Reception, random: &mut Random) {
     let mode = reception.mode;
-    for _ in 0..20 {
-        if mode.kind == 0 {
-            reception.damage_bit(random.below(256), 1, 1, random);
-        } else {
-            reception.lose(random.below(mode.pad()));
-        }
+    let repeated = if mode.kind == 0 {
+        mode.coded()
+    } else {
+        mode.pad()
+    };
+    let bits: Vec<usize> = (0..repeated).collect();
+    for bit in random.some_of(&bits, 20) {
+        let weight = random.within(1..mode.copies(bit).len());
+        let (wrong, lost) = altered_and_lost(weight, random);
+        reception.damage_bit(bit, wrong, lost, random);
     }
 }
 
@@ -313,11 +318,10 @@ fn good_cards(random: &mut Random) -> Vec<Vec<u8>> {
 }
 
 /// A good card spoilt in each way that has a number: 10 and 12 bytes, versions, the spare bit,
-/// band 2 and 3, kind 5 to 7, modulation 3.
+/// kind 5 to 7, modulation 3.
 fn spoilt_cards(good: Fields) -> Vec<Vec<u8>> {
     let mut spoilt: Vec<Fields> = (0..16).map(|version| Fields { version, ..good }).collect();
     spoilt.push(Fields { spare: 1, ..good });
-    spoilt.extend((2..4).map(|band| Fields { band, ..good }));
     spoilt.extend((5..8).map(|kind| Fields { kind, ..good }));
     spoilt.push(Fields {
         modulation: 3,
@@ -344,7 +348,7 @@ mod tests {
     #[test]
     fn the_file_is_small_and_the_same_on_every_run() {
         let bytes = to_bytes(&records());
-        assert!(bytes.len() <= 3_000_000, "{} bytes", bytes.len());
+        assert!(bytes.len() < 5_600_000, "{} bytes", bytes.len());
         assert!(bytes == to_bytes(&records()));
     }
 
@@ -377,6 +381,20 @@ mod tests {
             .flat_map(|(call, numbers)| numbers.iter().map(move |&number| (call as u8, number)))
             .collect();
         assert_eq!(seen, expected);
+    }
+
+    #[test]
+    fn decided_damage_comes_back() {
+        let mut random = Random::new(1);
+        for mode in modes() {
+            let mut reception = Reception::random(mode, &mut random);
+            decided(&mut reception, &mut random);
+            assert_ne!(reception.items, reception.sent);
+            let mut back = vec![0; mode.bytes()];
+            let read = mode.entries().1;
+            let report = read.call(&reception.card, &reception.items, &mut back);
+            assert_eq!((report.number, back), (0, reception.block));
+        }
     }
 
     #[test]

@@ -36,8 +36,8 @@ pub fn records() -> Vec<Record> {
     }
     cases.two_causes();
     cases.illegal_items();
-    for (band, bit) in [(0, 27), (1, 3)] {
-        cases.copies(Mode::frame_control(band), bit);
+    for rare in &RARE {
+        cases.copies(rare);
     }
     cases.pad_copies();
     cases.0
@@ -67,13 +67,11 @@ const TAPS: usize = 5;
 const SPARE: usize = 6;
 const SERIAL: usize = 7;
 
-const REFUSED: [&[Change]; 10] = [
+const REFUSED: [&[Change]; 8] = [
     &[(VERSION, 0)],
     &[(VERSION, 2)],
     &[(SPARE, 1)],
-    &[(VERSION, 2), (BAND, 3), (SPARE, 1)],
-    &[(BAND, 2)],
-    &[(BAND, 3)],
+    &[(VERSION, 2), (KIND, 5), (SPARE, 1)],
     &[(KIND, 5)],
     &[(KIND, 6)],
     &[(KIND, 7)],
@@ -88,7 +86,11 @@ const NOT_TOGETHER: [&[Change]; 4] = [
     &[(KIND, 0), (MODULATION, 2)],
 ];
 
-const ENDS: [&[Change]; 5] = [
+/// Good cards: the other bands, then taps and serials at their ends.
+const TAKEN: [&[Change]; 8] = [
+    &[(BAND, 1)],
+    &[(BAND, 2)],
+    &[(BAND, 3)],
     &[(TAPS, 0)],
     &[(TAPS, 2047)],
     &[(SERIAL, 0)],
@@ -129,6 +131,75 @@ fn card_of(length: usize, card: [u8; CARD_BYTES]) -> (String, Vec<u8>) {
     card.resize(length, 0);
     (format!("card of {length} bytes"), card)
 }
+
+// Bits by what happens to their copies.
+
+/// How many copies of a bit are wrong, how many of the next are lost, and the name of this.
+type Damage = (usize, usize, &'static str);
+
+/// What is lost with a copy.
+#[derive(Clone, Copy, PartialEq, Eq)]
+enum Loss {
+    Item,
+    Carrier,
+}
+
+/// A frame-control bit with the fewest copies of its band, about the limit of its majority.
+struct Rare {
+    band: u8,
+    bit: usize,
+    loss: Loss,
+    damages: &'static [Damage],
+}
+
+const RARE: [Rare; 4] = [
+    Rare {
+        band: 0,
+        bit: 27,
+        loss: Loss::Item,
+        damages: &OF_12_COPIES,
+    },
+    Rare {
+        band: 1,
+        bit: 3,
+        loss: Loss::Item,
+        damages: &OF_12_COPIES,
+    },
+    Rare {
+        band: 2,
+        bit: 1,
+        loss: Loss::Carrier,
+        damages: &OF_7_CARRIERS,
+    },
+    Rare {
+        band: 3,
+        bit: 1,
+        loss: Loss::Carrier,
+        damages: &OF_3_CARRIERS,
+    },
+];
+
+const OF_12_COPIES: [Damage; 7] = [
+    (0, 11, "11 of 12 copies lost"),
+    (0, 12, "12 of 12 copies lost"),
+    (5, 0, "5 of 12 copies wrong"),
+    (6, 0, "6 of 12 copies wrong"),
+    (12, 0, "12 of 12 copies wrong"),
+    (5, 1, "5 of 12 copies wrong, 1 lost"),
+    (5, 2, "5 of 12 copies wrong, 2 lost"),
+];
+
+const OF_7_CARRIERS: [Damage; 2] = [
+    (0, 6, "6 of 7 carriers lost"),
+    (0, 7, "7 of 7 carriers lost"),
+];
+
+const OF_3_CARRIERS: [Damage; 4] = [
+    (0, 2, "2 of 3 carriers lost"),
+    (0, 3, "3 of 3 carriers lost"),
+    (1, 0, "wrong on 1 of 3 carriers"),
+    (1, 1, "wrong on 1 of 3 carriers, another lost"),
+];
 
 // Entries that do their work.
 
@@ -231,7 +302,7 @@ impl Cases {
             let (label, card) = card_of(length, pack(&EXAMPLE));
             read(&label, &card, CARD_FIELDS);
         }
-        for changes in REFUSED.iter().chain(&NOT_TOGETHER).chain(&ENDS) {
+        for changes in REFUSED.iter().chain(&NOT_TOGETHER).chain(&TAKEN) {
             let (label, fields) = changed(GOOD, changes);
             read(&label, &pack(&fields), CARD_FIELDS);
         }
@@ -249,7 +320,7 @@ impl Cases {
             let (label, card) = card_of(length, pack(&EXAMPLE));
             print(&format!("{label} printed"), &card, TEXT_ROOM);
         }
-        for changes in REFUSED.iter().chain(&NOT_TOGETHER).chain(&ENDS) {
+        for changes in REFUSED.iter().chain(&NOT_TOGETHER).chain(&TAKEN) {
             let (label, fields) = changed(GOOD, changes);
             print(&format!("{label} printed"), &pack(&fields), TEXT_ROOM);
         }
@@ -264,7 +335,7 @@ impl Cases {
             let label = format!("example card written, room of {room} bytes");
             write(&label, EXAMPLE, room);
         }
-        let fitting = REFUSED.iter().chain(&NOT_TOGETHER).chain(&ENDS);
+        let fitting = REFUSED.iter().chain(&NOT_TOGETHER).chain(&TAKEN);
         for changes in TOO_LARGE.iter().chain(fitting) {
             let (label, fields) = changed(GOOD, changes);
             write(&format!("{label} written"), fields, CARD_BYTES);
@@ -324,7 +395,7 @@ impl Cases {
         self.add(label, Call::CardRead, &[0xFF; 12], &[], CARD_FIELDS);
 
         let [out, back] = both_ways(FRAME_CONTROL);
-        let (label, fields) = changed(fields(FRAME_CONTROL), &[(BAND, 2)]);
+        let (label, fields) = changed(fields(FRAME_CONTROL), &[(KIND, 5)]);
         let label = format!("{label} at frame control out, word of 15 bytes");
         let (call, card) = (Call::Entry(out.entry), pack(&fields));
         self.add(&label, call, &card, &out.input[..15], out.room);
@@ -364,20 +435,18 @@ impl Cases {
         self.read(&damaged, label, 16);
     }
 
-    /// A bit of frame control with 12 copies, about the limit of its majority.
-    fn copies(&mut self, mode: Mode, bit: usize) {
+    /// A bit of frame control about the limit of its majority.
+    fn copies(&mut self, rare: &Rare) {
+        let (mode, bit) = (Mode::frame_control(rare.band), rare.bit);
         let copies = mode.copies(bit);
-        for (wrong, lost, what) in [
-            (0, 11, "11 of 12 copies lost"),
-            (0, 12, "12 of 12 copies lost"),
-            (5, 0, "5 of 12 copies wrong"),
-            (6, 0, "6 of 12 copies wrong"),
-            (12, 0, "12 of 12 copies wrong"),
-            (5, 1, "5 of 12 copies wrong, 1 lost"),
-            (5, 2, "5 of 12 copies wrong, 2 lost"),
-        ] {
+        for &(wrong, lost, what) in rare.damages {
             let mut damaged = reception(mode);
             damaged.damage_items(&copies[..wrong + lost], wrong);
+            if rare.loss == Loss::Carrier {
+                for item in &copies[wrong..wrong + lost] {
+                    damaged.lose(item ^ 1);
+                }
+            }
             self.read(&damaged, &format!("bit {bit}, {what}"), mode.bytes());
         }
     }
@@ -402,6 +471,7 @@ impl Cases {
 mod tests {
     use super::*;
     use crate::record::printed;
+    use reference::cases::frame_controls;
     use std::collections::HashSet;
 
     #[test]
@@ -412,7 +482,16 @@ mod tests {
         assert!(!labels.contains(""));
     }
 
-    /// By hand from 01.
+    #[test]
+    fn each_band_has_a_bit_with_its_fewest_copies() {
+        assert_eq!(RARE.len(), frame_controls().count());
+        for (rare, mode) in RARE.iter().zip(frame_controls()) {
+            assert_eq!(rare.band, mode.band);
+            assert!(mode.rarest_bits().contains(&rare.bit));
+        }
+    }
+
+    /// By hand from 01 and 02 (T-01).
     const ANSWERS: &str = "\
 example card, room of 7 fields: 5 8
 example card, room of 9 fields: 0 8
@@ -420,36 +499,57 @@ card of 10 bytes: 1 10
 card of 40 bytes: 1 40
 version 0: 2 0
 spare 1: 2 0
-version 2 with band 3 and spare 1: 2 0
-band 2: 3 0
+version 2 with kind 5 and spare 1: 2 0
 kind 5: 3 0
 kind 0 with modulation 0: 3 0
+band 1: 0 8
+band 2: 0 8
+band 3: 0 8
 serial 18446744073709551615: 0 8
 example card printed, room of 84 bytes: 5 85
 example card printed, room of 85 bytes: 0 85
 example card printed, room of 86 bytes: 0 85
 card of 10 bytes printed: 0 10
+band 2 printed: 0 85
+band 3 printed: 0 85
 serial 0 printed: 0 70
 example card written, room of 10 bytes: 5 11
 example card written, room of 12 bytes: 0 11
 version 17 written: 2 0
 spare 2 written: 2 0
 taps 2048 written: 3 0
+band 4 written: 3 0
+band 2 written: 0 11
+band 3 written: 0 11
 spare 2 with band 4 written, no room: 2 0
 band 4 written, no room: 3 0
 card of 12 bytes at payload out: 1 12
-band 2 at payload back: 3 0
+kind 5 at payload back: 3 0
 payload card at frame control out: 3 0
 frame control card at payload back: 3 0
 frame control out, band 0, word of 15 bytes: 4 15
 frame control out, band 0, word of 16 bytes, exact room: 0 3288
 frame control out, band 1, word of 16 bytes, exact room: 0 3144
+frame control out, band 2, word of 16 bytes, exact room: 0 2136
+frame control out, band 3, word of 16 bytes, exact room: 0 1176
 frame control out, band 1, room one short: 5 3144
+frame control out, band 2, word of 17 bytes: 4 17
+frame control out, band 2, room one short: 5 2136
+frame control out, band 3, room one more: 0 1176
 frame control back, band 1, room one more: 0 16
+frame control back, band 2, all items, exact room: 0 16
+frame control back, band 2, one item more: 4 2137
+frame control back, band 3, one item less: 4 1175
+frame control back, band 3, room one short: 5 16
 payload out, band 0, kind 4, rate 16/18, QPSK, room one short: 5 4932
 payload back, band 1, kind 4, rate 16/18, 16QAM, one item less: 4 4715
+payload out, band 2, kind 4, rate 16/18, 16QAM, block of 520 bytes, exact room: 0 4984
+payload back, band 2, kind 2, rate 1/2, QPSK, one item more: 4 2315
+payload out, band 3, kind 1, rate 1/2, BPSK, room one short: 5 1176
+payload back, band 3, kind 4, rate 1/2, 16QAM, one item less: 4 8427
+payload back, band 3, kind 3, rate 1/2, BPSK, all items, exact room: 0 264
 card of 12 bytes with version 15: 1 12
-band 2 at frame control out, word of 15 bytes: 3 0
+kind 5 at frame control out, word of 15 bytes: 3 0
 frame control out, band 0, word of 15 bytes, room one short: 4 15
 frame control back, band 0, one item less, room one short: 4 3287
 frame control back, band 0, items 1234 of 9 and 3001 of 3: 6 1234
@@ -462,6 +562,12 @@ frame control back, band 0, bit 27, 5 of 12 copies wrong: 0 16
 frame control back, band 1, bit 3, 6 of 12 copies wrong: 7 3
 frame control back, band 1, bit 3, 5 of 12 copies wrong, 1 lost: 0 16
 frame control back, band 1, bit 3, 5 of 12 copies wrong, 2 lost: 7 3
+frame control back, band 2, bit 1, 6 of 7 carriers lost: 0 16
+frame control back, band 2, bit 1, 7 of 7 carriers lost: 7 1
+frame control back, band 3, bit 1, 2 of 3 carriers lost: 0 16
+frame control back, band 3, bit 1, 3 of 3 carriers lost: 7 1
+frame control back, band 3, bit 1, wrong on 1 of 3 carriers: 0 16
+frame control back, band 3, bit 1, wrong on 1 of 3 carriers, another lost: 7 1
 payload back, band 0, kind 4, rate 16/18, QPSK, bit 251, 1 of 2 copies lost: 0 520
 payload back, band 0, kind 4, rate 16/18, QPSK, bit 251, 1 of 2 copies wrong: 7 251
 payload back, band 0, kind 4, rate 16/18, QPSK, bit 252, its only copy lost: 7 252
