@@ -117,7 +117,7 @@ fn modulation_serves(kind: u64, modulation: u64) -> bool
     modulation == 1
 }
 
-// Whether a mode is one of paper 01's.
+// Whether a mode is defined.
 fn is_defined(band: u64, kind: u64, rate: u64, modulation: u64) -> bool
     ensures { λ r. ⌜ r ≡ definedMode band kind rate modulation ⌝ }
 {
