@@ -135,7 +135,8 @@ uint32_t hplc_fc_send(const uint8_t *card, size_t card_len, const uint8_t *word,
 
 /*
  * The word of a frame control from all its received items: HPLC_FC_BYTES into `word`. Where twice the altered plus the lost carriers is
- * below 12 on bands 0 and 1, 7 on band 2 or 3 on band 3, it is the word that was sent. Refusals 1, 2, 3 (a payload card too), 4, 5, 6, 7, 8.
+ * below the band's limit, 12, 12, 7 and 3 on bands 0 to 3, it is the word that was sent. Refusals 1, 2, 3 (a payload card too), 4, 5, 6,
+ * 7, 8.
  */
 uint32_t hplc_fc_read(const uint8_t *card, size_t card_len, const uint8_t *items, size_t items_len, uint8_t *word, size_t word_len,
                       uint64_t value[2]);

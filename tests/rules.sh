@@ -1,6 +1,6 @@
 #!/usr/bin/env bash
 # The tables of docs/RULES.md are those of the definitions: M, N and S of each size, Table 11, the bands and the symbols' offsets. So
-# is the table of bands in docs/CLASS.md, and the items that include/hplc.h prints for each.
+# is the table of bands in docs/CLASS.md, and what include/hplc.h prints by band: the items, the sub-carriers and the limits.
 set -u
 cd "$(dirname "$0")/.." || exit 1
 bad=0
@@ -19,6 +19,16 @@ row() { awk -F ' *[|] *' -v column="$2" -v start="$1" 'index($0, start) == 1 { p
 
 # bands_of DOCUMENT: the rows of its table of bands.
 bands_of() { awk '/^\| Band \|/ { on = 1 } on && !NF { exit } on && /^\| [0-9]/' "$1"; }
+
+# found FILE PATTERN: what a pattern finds in a text, its lines joined.
+found() { tr -s '\n* ' ' ' < "$1" | sed -nE "s/.*$2.*/\1/p"; }
+
+# listed ITEM..: `a, b and c`.
+listed() {
+  local text
+  text=$(printf '%s, ' "${@:1:$#-1}")
+  printf '%s and %s\n' "${text%, }" "${!#}"
+}
 
 # same NAME A B: two texts that must be equal, and not empty.
 same() {
@@ -52,15 +62,19 @@ read -ra fewest <<< "$(numbers diversity 'bandFewest band')"
 read -ra most <<< "$(numbers diversity 'bandMost band')"
 bands=
 limits=
+spans=()
 for band in "${!first[@]}"; do
   carriers=$((last[band] - first[band] + 1))
   items=$((2 * symbols[band] * carriers))
   bands+="| $band | ${first[band]} | ${last[band]} | $carriers | ${symbols[band]} | $items | ${fewest[band]} | ${most[band]} |"$'\n'
   limits+="| $band | ${first[band]} to ${last[band]} | ${symbols[band]} | ${fewest[band]} to ${most[band]} | ${fewest[band]} |"$'\n'
+  spans+=("${first[band]} to ${last[band]}")
   same "HPLC_FC_ITEMS_BAND_$band" "$(sed -n "s/^#define HPLC_FC_ITEMS_BAND_$band //p" include/hplc.h)" "$items"
 done
 same 'the bands of docs/RULES.md' "$(bands_of docs/RULES.md)"$'\n' "$bands"
 same 'the bands of docs/CLASS.md' "$(bands_of docs/CLASS.md)"$'\n' "$limits"
-printed=$(tr '\n' ' ' < docs/RULES.md | sed -nE 's/.*The offsets are ([0-9, ]+), on band 0 .*/\1/p')
-same "the symbols' offsets" "${printed//,/}" "$(numbers bands symbolOffsets)"
+same 'the sub-carriers of include/hplc.h' "$(found include/hplc.h 'Bands 0 to 3 are sub-carriers ([^.]+)\.')" "$(listed "${spans[@]}")"
+same 'the limits of include/hplc.h' "$(found include/hplc.h "below the band's limit, ([^.]+) on bands 0 to 3,")" "$(listed "${fewest[@]}")"
+offsets=$(found docs/RULES.md 'The offsets are ([0-9, ]+), on band 0 ')
+same "the symbols' offsets" "${offsets//,/}" "$(numbers bands symbolOffsets)"
 exit "$bad"

@@ -1,10 +1,13 @@
 -- The demands, proved from what the crates have. Assumes nothing.
+use mathlib.Core.Bool.{Bool, true, false, _&&_}
 use mathlib.Core.List.{List, [], _∷_, _++_}
 use mathlib.Core.Path.{_≡_, refl, sym, ap, _∙_}
 use Prim.Native.Nat.{ℕ, _*_}
 use native.Mathlib.Nat.{mul-assoc, mul-comm}
 use native.Mathlib.Omega.{arith}
+use lib.Dec.{leb, ltb}
 use lib.ListN.{length, getD}
+use borrow.Author.Tests.{leb-true, leb-false, lt-ltb, le-ltb}
 use Rattle.bits.specs.Lists.{tabulate}
 use Rattle.bits.proofs.ListLaws.{getD-tabulate}
 use Rattle.bits.proofs.RangeLaws.{under, agree}
@@ -17,7 +20,7 @@ use Rattle.frame_control.specs.Entries.{carriersOf, offsetsOf, itemCountOf, tap
 use Rattle.frame_control.specs.Words.{made}
 use Rattle.frame_control.proofs.FrameLaws.{send-good, made-is, clean, comes-back, refused-at-limit, made-length, made-binary}
 use Rattle.card.specs.Card.{cardOf}
-use Rattle.card.specs.Modes.{blockBytes, carrierBits}
+use Rattle.card.specs.Modes.{blockBytes, carrierBits, definedMode}
 use Rattle.card.specs.Entries.{fieldRows, readFields, writeRows, writeCard}
 use Rattle.card.specs.Gate.{gateRows}
 use Rattle.printed_card.specs.Text.{textRows, textCard}
@@ -33,7 +36,7 @@ use Rattle.payload.specs.Entries.{layoutOfCard, sendRows, send as payloadSend, 
 use Rattle.payload.specs.Words.{made as payloadMade}
 use Rattle.payload.proofs.ModeLaws.{layout-items}
 use Rattle.payload.proofs.ReturnLaws.{blockBits, send-good as payload-sent, made-is as payload-made-is, clean as payload-clean, survives as payload-back, made-length as payload-length, made-binary as payload-binary}
-use Rattle.demands.specs.Demands.{Keeps, Outgoing, PayloadOutgoing, CardWritten, CardReadAgain, CleanReturn, PayloadCleanReturn, PayloadSurvives, Lanes, Fewest, Survives, BestPossible, Lengths}
+use Rattle.demands.specs.Demands.{Keeps, Outgoing, PayloadOutgoing, CardWritten, CardReadAgain, CleanReturn, PayloadCleanReturn, PayloadSurvives, Lanes, Fewest, Survives, BestPossible, BandsOfCards, Lengths}
 
 -- ---- Demand 1
 
@@ -121,6 +124,19 @@ payload-clean-return card block good is out back room space = (payload-clean car
 
 pub payload-survives : PayloadSurvives
 payload-survives card block good is out received back room damage space few = payload-back card good block is out received back room damage space few
+
+-- the bands that cards know are those of the table
+pub bands-of-cards : BandsOfCards
+unfolding definedMode
+bands-of-cards band kind rate modulation = apart (leb band 3) _ _ _ _ ∙ ap (λ b. b && definedMode 0 kind rate modulation) (known (leb band 3) refl)
+  where
+    apart : (b k m r q : Bool) → (b && k && m && r && q) ≡ (b && (true && k && m && r && q))
+    apart true k m r q = refl
+    apart false k m r q = refl
+
+    known : (b : Bool) → leb band 3 ≡ b → b ≡ ltb band bandCount
+    known true e = sym (lt-ltb band bandCount (omega (arith, leb-true band 3 e)))
+    known false e = sym (le-ltb band bandCount (omega (arith, leb-false band 3 e)))
 
 pub lengths : Lengths
 unfolding itemCount carrierCount carriers offsets

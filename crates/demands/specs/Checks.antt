@@ -21,7 +21,7 @@ use Rattle.interleaver.specs.Source.{column}
 use Rattle.votes.specs.Votes.{carries, copies}
 use Rattle.bands.specs.Bands.{offsets, carriers}
 use Rattle.diversity.specs.Lanes.{laneBit, carrierCount, itemCount}
-use Rattle.diversity.specs.Copies.{copiesOf}
+use Rattle.diversity.specs.Copies.{copiesOf, copiesOn}
 use Rattle.payload_layout.specs.Layouts.{symbolBits, symbolCount, padBits, layoutFor, layoutOf}
 
 -- a report of a card as numbers: 0 and its fields, or the refusal and its values
@@ -38,10 +38,6 @@ lanesAt band symbol c =
 -- the columns that the four bits of nibble n of the joined stream come from, as they go out
 abbrev turnOf : ℕ → List ℕ
 turnOf n = column n 0 ∷ column n 1 ∷ column n 2 ∷ column n 3 ∷ []
-
--- how many lanes of a band carry a coded bit
-abbrev lanesOf : ℕ → ℕ → ℕ
-lanesOf band b = copiesOf (carriers band) (offsets band) b
 
 -- the example card
 abbrev exampleCard : List ℕ
@@ -66,11 +62,11 @@ checks =
     ∷ (lanesAt 0 2 64, 0 ∷ 128 ∷ [])
     ∷ (lanesAt 0 1 410, 154 ∷ 26 ∷ [])
     -- P9 and P10: copies on bands 0 and 1
-    ∷ (lanesOf 0 0 ∷ lanesOf 0 27 ∷ [], 13 ∷ 12 ∷ [])
-    ∷ (lanesOf 1 0 ∷ lanesOf 1 3 ∷ [], 13 ∷ 12 ∷ [])
+    ∷ (copiesOn 0 0 ∷ copiesOn 0 27 ∷ [], 13 ∷ 12 ∷ [])
+    ∷ (copiesOn 1 0 ∷ copiesOn 1 3 ∷ [], 13 ∷ 12 ∷ [])
     -- and on bands 2 and 3: a bit with the fewest and one with the most
-    ∷ (lanesOf 2 1 ∷ lanesOf 2 56 ∷ [], 7 ∷ 10 ∷ [])
-    ∷ (lanesOf 3 1 ∷ lanesOf 3 48 ∷ [], 3 ∷ 7 ∷ [])
+    ∷ (copiesOn 2 1 ∷ copiesOn 2 56 ∷ [], 7 ∷ 10 ∷ [])
+    ∷ (copiesOn 3 1 ∷ copiesOn 3 48 ∷ [], 3 ∷ 7 ∷ [])
     -- P11: the example card, read and printed
     ∷ (numbers (readCard exampleCard), 0 ∷ 1 ∷ 0 ∷ 4 ∷ 1 ∷ 1 ∷ 0b10001000111 ∷ 0 ∷ 9_007_199_254_740_993 ∷ [])
     ∷ (

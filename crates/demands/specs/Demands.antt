@@ -1,8 +1,9 @@
 -- The three demands, over the same outcome definitions that the entries' contracts cite. proofs/Proved.antt proves each. Assumes nothing.
+use mathlib.Core.Bool.{_&&_}
 use mathlib.Core.List.{List, [], _∷_, _++_}
 use mathlib.Core.Path.{_≡_}
 use Prim.Native.Nat.{ℕ, _+_, _*_, _^_, _≤_, _<_}
-use lib.Dec.{T}
+use lib.Dec.{T, ltb}
 use lib.Ieee.{Float}
 use lib.ListN.{length, getD, take, drop}
 use Rattle.bits.specs.Bits.{bitOf}
@@ -11,7 +12,7 @@ use Rattle.refusal.specs.Report.{done, number}
 use Rattle.refusal.specs.Outcome.{Outcome}
 use Rattle.card.specs.declared.Card.{Card}
 use Rattle.card.specs.Card.{cardOf}
-use Rattle.card.specs.Modes.{blockBytes}
+use Rattle.card.specs.Modes.{blockBytes, definedMode}
 use Rattle.card.specs.Entries.{readCard, readFields, writeCard}
 use Rattle.printed_card.specs.Text.{textCard}
 use Rattle.constellation.specs.Entries.{mapOutcome}
@@ -25,7 +26,7 @@ use Rattle.votes.specs.Votes.{copies, wrongCopies, lostCopies}
 use Rattle.votes.specs.Damage.{Damage, altered, lost}
 use Rattle.bands.specs.Bands.{bandCount, carriers, offsets}
 use Rattle.diversity.specs.Lanes.{laneBit, carrierCount, itemCount}
-use Rattle.diversity.specs.Copies.{copiesOf, fewestCopies, bandFewest, bandMost}
+use Rattle.diversity.specs.Copies.{copiesOn, fewestCopies, bandFewest, bandMost}
 use Rattle.payload_layout.specs.Layouts.{items as itemsOf}
 use Rattle.payload_layout.specs.Items.{carries}
 use Rattle.payload.specs.Entries.{layoutOfCard, send as payloadSend, read as payloadRead}
@@ -97,10 +98,11 @@ CardReadAgain = (c : Card) → c .serial < 2 ^ 64 → (out : List ℕ) → write
 -- Each of a band's 256 coded bits has so many lanes, its copies: 12 to 13 on bands 0 and 1, 7 to 10 on band 2, 3 to 7 on band 3. Some bit
 -- has the fewest, and some the most.
 pub record LanesOn (band : ℕ) : Type 0 where
-  pub between : (b : ℕ) → b < 256 → (bandFewest band ≤ copiesOf (carriers band) (offsets band) b) × (copiesOf (carriers band) (offsets band) b ≤ bandMost band)
-  pub fewest-met : (b : ℕ) × (b < 256) × (copiesOf (carriers band) (offsets band) b ≡ bandFewest band)
-  pub most-met : (b : ℕ) × (b < 256) × (copiesOf (carriers band) (offsets band) b ≡ bandMost band)
+  pub between : (b : ℕ) → b < 256 → (bandFewest band ≤ copiesOn band b) × (copiesOn band b ≤ bandMost band)
+  pub fewest-met : (b : ℕ) × (b < 256) × (copiesOn band b ≡ bandFewest band)
+  pub most-met : (b : ℕ) × (b < 256) × (copiesOn band b ≡ bandMost band)
 
+-- So it is on every band.
 abbrev pub Lanes : Type 0
 Lanes = (band : ℕ) → band < bandCount → LanesOn band
 
@@ -138,6 +140,10 @@ PayloadSurvives =
     + lostCopies (itemsOf (layoutOfCard card)) (carries (layoutOfCard card)) received b
     < copies (itemsOf (layoutOfCard card)) (carries (layoutOfCard card)) b)
     → payloadRead card received back ≡ record { report = done (blockBytes (cardOf card .kind)); out = block ++ drop (blockBytes (cardOf card .kind)) back }
+
+-- A card can name every band and no other number: on each the same modes are defined.
+abbrev pub BandsOfCards : Type 0
+BandsOfCards = (band kind rate modulation : ℕ) → definedMode band kind rate modulation ≡ (ltb band bandCount && definedMode 0 kind rate modulation)
 
 -- The lengths that a caller makes room for: the items of a frame control by band, and the most items and bytes of a payload.
 abbrev pub Lengths : Type 0

@@ -5,6 +5,7 @@ use Prim.Native.Nat.{ℕ, zero, suc}
 use lib.Dec.{ltb}
 use lib.ListN.{getD}
 use Rattle.votes.specs.Votes.{carries, copies}
+use Rattle.bands.specs.Bands.{carriers as carriersOf, offsets as offsetsOf}
 use Rattle.diversity.specs.Lanes.{laneBit, itemCount}
 
 -- the lanes that carry bit b
@@ -26,7 +27,10 @@ fewestCopies carriers offsets = leastBy ltb 255 (copiesOf carriers offsets)
 unfoldable pub mostCopies : ℕ → List ℕ → ℕ
 mostCopies carriers offsets = leastBy (λ a b. ltb b a) 255 (copiesOf carriers offsets)
 
--- what they are on each band
+-- the copies of bit b on a band, and their fewest and most
+abbrev pub copiesOn : ℕ → ℕ → ℕ
+copiesOn band b = copiesOf (carriersOf band) (offsetsOf band) b
+
 abbrev pub bandFewest : ℕ → ℕ
 bandFewest band = getD (12 ∷ 12 ∷ 7 ∷ 3 ∷ []) band 0
 
