@@ -19,6 +19,28 @@ const TWICE_UP: f64 = 5696652996790544.0 / 9007199254740992.0;
 
 const TWICE_DOWN: f64 = 5696652996790542.0 / 9007199254740992.0;
 
+// The edges of what is lost, each between its two neighbours: f/8 of BPSK, QPSK and 16QAM, and the low and the high end about 2f.
+const EDGES: [f64; 15] = [
+    9007199254740991.0 / 72057594037927936.0,
+    0.125,
+    4503599627370497.0 / 36028797018963968.0,
+    6369051672525772.0 / 72057594037927936.0,
+    6369051672525773.0 / 72057594037927936.0,
+    6369051672525774.0 / 72057594037927936.0,
+    5696652996790542.0 / 144115188075855872.0,
+    5696652996790543.0 / 144115188075855872.0,
+    5696652996790544.0 / 144115188075855872.0,
+    5340612184491133.0 / 9007199254740992.0,
+    5340612184491134.0 / 9007199254740992.0,
+    5340612184491135.0 / 9007199254740992.0,
+    6052693809089951.0 / 9007199254740992.0,
+    6052693809089952.0 / 9007199254740992.0,
+    6052693809089953.0 / 9007199254740992.0,
+];
+
+// How many coordinates are sliced against each other.
+const COORDINATES: u16 = 51;
+
 fn digit(d: u8) {
     output::put_number(d as u64);
 }
@@ -28,8 +50,14 @@ fn bits_of(x: f64) -> u64 {
     if x == x { f64::to_bits(x) } else { 0 }
 }
 
-// The special coordinates, 0 to 20.
-fn value(k: u8) -> f64 {
+// The coordinates at the edges, six an edge: itself between its neighbours, and the same with a minus.
+fn at_edge(k: u8) -> f64 {
+    let x = EDGES[(k / 6 % 5 * 3 + k % 3) as usize];
+    if k % 6 < 3 { x } else { -x }
+}
+
+// The coordinates that are special by themselves.
+fn special(k: u8) -> f64 {
     match k {
         0 => 0.0,
         1 => -0.0,
@@ -53,6 +81,11 @@ fn value(k: u8) -> f64 {
         19 => QPSK_FACTOR,
         _ => -QPSK_FACTOR,
     }
+}
+
+// All coordinates that are sliced: 21 special ones, then those at the edges.
+fn value(k: u8) -> f64 {
+    if k < 21 { special(k) } else { at_edge(k - 21) }
 }
 
 // A refusal's number, and what comes with it where that is asked.
@@ -160,7 +193,11 @@ fn line(kind: u8, modulation: u8, k: u16) {
     if kind == 0 {
         map_line(modulation, (k % 256) as u8);
     } else if kind == 1 {
-        slice_line(modulation, (k / 21 % 21) as u8, (k % 21) as u8);
+        slice_line(
+            modulation,
+            (k / COORDINATES % COORDINATES) as u8,
+            (k % COORDINATES) as u8,
+        );
     } else {
         bad_line(modulation, (k % 256) as u8);
     }
@@ -178,9 +215,9 @@ fn main() {
     lines(0, 0, 2);
     lines(0, 1, 4);
     lines(0, 2, 16);
-    lines(1, 0, 441);
-    lines(1, 1, 441);
-    lines(1, 2, 441);
+    lines(1, 0, COORDINATES * COORDINATES);
+    lines(1, 1, COORDINATES * COORDINATES);
+    lines(1, 2, COORDINATES * COORDINATES);
     lost_line(0);
     lost_line(1);
     lost_line(2);

@@ -64,11 +64,11 @@ size-pos : (n : ℕ) (e : ℤ) → le (fin false n e) (erasureWidth 2) ≡ false
 unfolding mul
 size-pos n e t = omega (arith, down-pos e, more _ n _ e t)
 
-within : (n : ℕ) (e : ℤ) → lt (fin false n e) lower ≡ true → size n e < 2 * unit n e
+pub within : (n : ℕ) (e : ℤ) → lt (fin false n e) lower ≡ true → size n e < 2 * unit n e
 unfolding add sub mul
 within n e t = omega (arith, less n _ e _ t)
 
-beyond : (n : ℕ) (e : ℤ) → le (fin false n e) upper ≡ false → 2 * unit n e < size n e
+pub beyond : (n : ℕ) (e : ℤ) → le (fin false n e) upper ≡ false → 2 * unit n e < size n e
 unfolding add sub mul
 beyond n e t = omega (arith, more _ n _ e t)
 

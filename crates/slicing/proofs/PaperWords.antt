@@ -1,89 +1,85 @@
--- While the erasure widths are 0, slicing is what paper 01 words by equality with zero and with ±2f. Assumes nothing.
-use Prim.Native.Nat.{ℕ, _*_, _<_}
+-- Slicing is what the papers word over exact numbers. Assumes nothing.
+use Prim.Native.Nat.{ℕ, _*_, _≤_}
 use native.Mathlib.Omega.{arith}
-use mathlib.Core.Path.{_≡_, refl, _∙_, ap}
-use mathlib.Core.Bool.{Bool, true, false, cond, _&&_, _||_, Bool·beq, or-true, true≢false}
-use borrow.Author.Tests.{ltb-true, eqb-true, le-ltb, eq-eqb, ne-eqb}
-use lib.Dec.{ltb, eqb}
-use lib.IntN.{ℤ, negsuc}
-use lib.Ieee.{Float, nan, inf, fin, binary64, up, down, add, sub, mul, lt, le, eq}
-use Rattle.constellation.specs.Factors.{qamNumerator, factorOf}
-use Rattle.slicing.specs.Slicing.{Reading, level, lost, erasureFraction, erasureWidth, threshold, lower, upper, read4, reading2, reading4}
-use Rattle.slicing.specs.PaperWords.{zero, worded2, worded4}
+use native.Mathlib.Nat.{le-of-lt}
+use mathlib.Core.Path.{_≡_, refl, sym, _∙_, ap}
+use mathlib.Core.Bool.{Bool, true, false, not, cond, _&&_, _||_, Bool·not-not, true≢false, false≢true}
+use borrow.Author.Tests.{ltb-false, lt-ltb, le-ltb, leb-true, leb-false}
+use lib.Dec.{leb, ltb, eqb}
+use lib.IntN.{ℤ}
+use lib.Ieee.{Float, nan, inf, fin, binary64, up, down, add, sub, mul, lt, le}
+use Rattle.bits.proofs.BoolLaws.{test-cases}
+use Rattle.constellation.specs.Factors.{factorOf}
+use Rattle.slicing.specs.Slicing.{Reading, level, lost, erasureFraction, lower, upper, reading2, reading4}
+use Rattle.slicing.specs.Distances.{scaled, atMost}
+use Rattle.slicing.specs.Ends.{lowEnd, highEnd}
+use Rattle.slicing.specs.PaperWords.{atMostEighth, belowTwice, worded2, worded4}
+use Rattle.slicing.proofs.DecisionLaws.{le-not-lt}
+use Rattle.slicing.proofs.NearestLevel.{within, beyond}
 
--- the width is zero at each modulation, and both ends about 2f are 2f
-width-at : (a b : Bool) → mul binary64 (cond a (factorOf 0) (cond b (factorOf 1) (factorOf 2))) erasureFraction ≡ zero
-unfolding mul
-width-at true b = refl
-width-at false true = refl
-width-at false false = refl
+-- ---- comparisons of two sizes, over whole numbers
 
-width-is : (m : ℕ) → erasureWidth m ≡ zero
-width-is m = width-at (eqb m 0) (eqb m 1)
+-- c ≤ d is b ≤ a on another scale, and so the reverse of a < b
+reverse : (a b c d : ℕ) → (b ≤ a → c ≤ d) → (c ≤ d → b ≤ a) → ltb a b ≡ not (leb c d)
+reverse a b c d f g =
+    test-cases (leb c d) (λ t. le-ltb a b (g (leb-true c d t)) ∙ sym (ap not t)) λ t.
+    test-cases (ltb a b) (λ u. u ∙ sym (ap not t)) (λ u. absurd (let h = f (ltb-false a b u) in let k = leb-false c d t in omega arith))
 
-lower-is : lower ≡ threshold
-unfolding sub mul
-lower-is = refl
+-- n · 2^e against k · 2^d
+module _ (n k : ℕ) (e d : ℤ) (a b : ℕ) where
+  lt-is : (k * up d * down e ≤ n * up e * down d → a ≤ b) → (a ≤ b → k * up d * down e ≤ n * up e * down d)
+      → lt (fin false n e) (fin false k d) ≡ not (leb a b)
+  unfolding lt
+  lt-is f g = reverse (n * up e * down d) (k * up d * down e) a b f g
 
-upper-is : upper ≡ threshold
-unfolding add mul
-upper-is = refl
+  le-is : (n * up e * down d ≤ k * up d * down e → a ≤ b) → (a ≤ b → n * up e * down d ≤ k * up d * down e)
+      → le (fin false n e) (fin false k d) ≡ leb a b
+  unfolding lt
+  le-is f g = le-not-lt n k e d ∙ ap not (reverse (k * up d * down e) (n * up e * down d) a b f g) ∙ Bool·not-not (leb a b)
 
--- a ≤ 0 is a = 0, for either sign s
-at-most-zero : (a b : ℕ) (s c : Bool) → b ≡ 0 → (ltb a b || (eqb a b && (true || c))) ≡ (eqb a b && (s || eqb a 0))
-at-most-zero a b s c h = go (eqb a b) refl
-  where
-    low : ltb a b ≡ false
-    low = le-ltb a b (omega arith)
+module _ (s : Bool) (n : ℕ) (e : ℤ) where
+  eighth-at : (a b : Bool) → let f = cond a (factorOf 0) (cond b (factorOf 1) (factorOf 2)) in
+      le (fin false n e) (mul binary64 f erasureFraction) ≡ atMostEighth f (fin s n e)
+  unfolding mul
+  eighth-at true b = le-is n _ e _ (8 * scaled (fin s n e) (factorOf 0)) (scaled (factorOf 0) (fin s n e)) (λ h. omega arith) (λ h. omega arith)
+  eighth-at false true = le-is n _ e _ (8 * scaled (fin s n e) (factorOf 1)) (scaled (factorOf 1) (fin s n e)) (λ h. omega arith) (λ h. omega arith)
+  eighth-at false false = le-is n _ e _ (8 * scaled (fin s n e) (factorOf 2)) (scaled (factorOf 2) (fin s n e)) (λ h. omega arith) (λ h. omega arith)
 
-    go : (t : Bool) → eqb a b ≡ t → (ltb a b || (eqb a b && (true || c))) ≡ (eqb a b && (s || eqb a 0))
-    go false p = simp (low, p)
-    go true p =
-        let z : a ≡ 0 = eqb-true a b p ∙ h in
-        simp (low, p, eq-eqb a 0 z, or-true s)
+  from-low : lt (fin false n e) lower ≡ not (atMost lowEnd (fin s n e))
+  unfolding sub mul
+  from-low = lt-is n _ e _ (scaled lowEnd (fin s n e)) (scaled (fin s n e) lowEnd) (λ h. omega arith) (λ h. omega arith)
 
-only-zero : (s : Bool) (n : ℕ) (e : ℤ) → le (fin false n e) zero ≡ eq (fin s n e) zero
-unfolding le eq
-only-zero s n e = at-most-zero (n * up e * 1) (0 * 1 * down e) (Bool·beq s false) (eqb (n * up e * 1) 0) (omega arith)
+  to-high : le (fin false n e) upper ≡ atMost (fin s n e) highEnd
+  unfolding add mul
+  to-high = le-is n _ e _ (scaled (fin s n e) highEnd) (scaled highEnd (fin s n e)) (λ h. omega arith) (λ h. omega arith)
 
--- what is below is not equal
-below-unequal : (n k : ℕ) (e d : ℤ) → lt (fin false n e) (fin false k d) ≡ true → eq (fin false n e) (fin false k d) ≡ false
-unfolding lt eq
-below-unequal n k e d t =
-    let a = n * up e * down d in
-    let b = k * up d * down e in
-    let l : a < b = ltb-true a b t in
-    let ne : a ≡ b → ⊥ = omega arith in
-    simp (ne-eqb a b ne)
+-- ---- the words
 
-pub words2 : (m : ℕ) (x : Float) → reading2 m x ≡ worded2 x
+pub words2 : (m : ℕ) (x : Float) → reading2 m x ≡ worded2 m x
 words2 m nan = refl
 words2 m (inf s) = refl
-words2 m (fin s n e) =
-    ap (λ (w : Float). cond (le (fin false n e) w) lost (cond s (level 0) (level 1))) (width-is m)
-    ∙ ap (λ (t : Bool). cond t lost (cond s (level 0) (level 1))) (only-zero s n e)
+words2 m (fin s n e) = ap (λ (t : Bool). cond t lost (cond s (level 0) (level 1))) (eighth-at s n e (eqb m 0) (eqb m 1))
 
--- from 2f to 2f there is 2f alone
-alone : (z a b : Bool) (inner outer : Reading) → (a ≡ true → b ≡ false)
-    → cond z lost (cond a inner (cond (a || b) lost outer)) ≡ cond (z || b) lost (cond a inner outer)
-alone true a b i o h = refl
-alone false true true i o h = absurd (true≢false (h refl))
-alone false true false i o h = refl
-alone false false true i o h = refl
-alone false false false i o h = refl
+-- a: at most f/8; b: from the low end on; h: up to the high end; t: below 2f
+parts : (a b h t : Bool) (inner outer : Reading) → (b ≡ false → t ≡ true) → (h ≡ false → t ≡ false)
+    → cond a lost (cond (not b) inner (cond h lost outer)) ≡ cond (a || (b && h)) lost (cond t inner outer)
+parts true b h t i o f g = refl
+parts false true true t i o f g = refl
+parts false true false true i o f g = absurd (true≢false (g refl))
+parts false true false false i o f g = refl
+parts false false h true i o f g = refl
+parts false false h false i o f g = absurd (false≢true (f refl))
 
 pub words4 : (x : Float) → reading4 x ≡ worded4 x
-unfolding le mul
 words4 nan = refl
 words4 (inf s) = refl
 words4 (fin s n e) =
-    ap (λ (w : Float). read4 w lower upper (fin s n e)) (width-is 2) ∙ ap (λ (l : Float). read4 zero l upper (fin s n e)) lower-is
-    ∙ ap (λ (h : Float). read4 zero threshold h (fin s n e)) upper-is
-    ∙ ap (λ (z : Bool). cond z lost (cond (lt (fin false n e) threshold) inside (cond (le (fin false n e) threshold) lost outside))) (only-zero s n e)
-    ∙ alone (eq (fin s n e) zero) (lt (fin false n e) threshold) (eq (fin false n e) threshold) inside outside (below-unequal n qamNumerator e (negsuc 52))
+    (λ i. cond (eighth-at s n e false false i) lost (cond (from-low s n e i) inner (cond (to-high s n e i) lost outer)))
+    ∙ parts (atMostEighth (factorOf 2) (fin s n e)) (atMost lowEnd (fin s n e)) (atMost (fin s n e) highEnd) (belowTwice (factorOf 2) (fin s n e)) inner outer
+    (λ t. lt-ltb _ _ (within n e (from-low s n e ∙ ap not t))) (λ t. le-ltb _ _ (le-of-lt (beyond n e (to-high s n e ∙ t))))
   where
-    inside : Reading
-    inside = cond s (level 1) (level 2)
+    inner : Reading
+    inner = cond s (level 1) (level 2)
 
-    outside : Reading
-    outside = cond s (level 0) (level 3)
+    outer : Reading
+    outer = cond s (level 0) (level 3)

@@ -1,7 +1,7 @@
--- How far a coordinate lies from a level, exactly. Assumes nothing.
+-- The sizes of two numbers compared, and how far a coordinate lies from a level, exactly. Assumes nothing.
 use Prim.Native.Nat.{ℕ, _+_, _-_, _*_}
 use mathlib.Core.Bool.{Bool, false, Bool·beq, cond}
-use lib.Dec.{ltb}
+use lib.Dec.{leb, ltb}
 use lib.Ieee.{Float, nan, inf, fin, up, down}
 
 -- the sizes of x and y are to each other as scaled x y to scaled y x, for finite x and y
@@ -11,6 +11,10 @@ scaled (inf s) y = 0
 scaled (fin s n e) nan = 0
 scaled (fin s n e) (inf t) = 0
 scaled (fin s n e) (fin t k d) = n * up e * down d
+
+-- the size of x is at most that of y, for finite x and y
+abbrev pub atMost : Float → Float → Bool
+atMost x y = leb (scaled x y) (scaled y x)
 
 abbrev pub negative : Float → Bool
 negative nan = false

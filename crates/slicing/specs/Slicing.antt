@@ -3,7 +3,7 @@ use Prim.Native.Nat.{ℕ}
 use mathlib.Core.Bool.{false, cond}
 use mathlib.Core.List.{List, [], _∷_}
 use lib.Dec.{ltb}
-use lib.IntN.{pos}
+use lib.IntN.{pos, negsuc}
 use lib.Ieee.{Float, nan, inf, fin, binary64, le, lt, add, sub, mul}
 use lib.ListN.{getD, replicate}
 use Rattle.refusal.specs.declared.Refusal.the-variants.{Mode}
@@ -23,10 +23,10 @@ pub data Reading : Type 0 where
   level : ℕ → Reading
   lost : Reading
 
--- the erasure width is this part of f: a coordinate no further than that from a threshold (zero, and ±2f of 16QAM) is lost.
--- The part is 0, so only the thresholds are lost.
+-- the erasure width is this part of a modulation's f, an eighth (D14): sizes up to it are lost, and for 16QAM those about 2f, from `lower`
+-- to `upper`. `negsuc 2` is -3.
 abbrev pub erasureFraction : Float
-erasureFraction = fin false 0 (pos 0)
+erasureFraction = fin false 1 (negsuc 2)
 
 abbrev pub erasureWidth : ℕ → Float
 erasureWidth modulation = mul binary64 (factorOf modulation) erasureFraction

@@ -17,10 +17,10 @@ ghost use Rattle.constellation.specs.Mapping.{pair};
 ghost use Rattle.slicing.specs.Slicing.{erasureWidth, lower, upper, axis2Of, axis4Of, sliced, given, slicing};
 ghost use Rattle.slicing.specs.Entries.{receivedOf, sliceOutcome};
 
-// The erasure width, as a part of the factor: a coordinate no further than that from a threshold is lost. It is 0, so only the thresholds are lost.
-const ERASURE_FRACTION: f64 = 0.0;
+// The erasure width, as a part of the factor: sizes up to it are lost.
+const ERASURE_FRACTION: f64 = 0.125;
 
-// About ±2f, 16QAM loses the sizes from LOWER to UPPER.
+// About 2f, 16QAM loses the sizes from LOWER to UPPER, both included. 2f and the width are exact, so each end is rounded once.
 const QAM_ERASURE: f64 = QAM_FACTOR * ERASURE_FRACTION;
 
 const LOWER: f64 = 2.0 * QAM_FACTOR - QAM_ERASURE;

@@ -16,7 +16,7 @@ ghost use Rattle.payload.specs.Entries.{send as payloadSend, read as payloadRea
 ghost use Rattle.tester.specs.Call.{Reported, Returned, interfaceVersion};
 
 // The version of this interface.
-const VERSION: u32 = 10100;
+const VERSION: u32 = 10200;
 
 #[no_mangle]
 pub extern "C" fn hplc_version() -> u32
