@@ -34,7 +34,7 @@ extern "C" {
 
 /* The version of this interface. hplc_version() gives that of the library: the same number where both belong together. */
 #define HPLC_VERSION_MAJOR 1
-#define HPLC_VERSION_MINOR 1
+#define HPLC_VERSION_MINOR 2
 #define HPLC_VERSION_PATCH 0
 #define HPLC_VERSION (HPLC_VERSION_MAJOR * 10000 + HPLC_VERSION_MINOR * 100 + HPLC_VERSION_PATCH)
 
@@ -115,7 +115,9 @@ uint32_t hplc_map(uint64_t modulation, const uint8_t *bits, size_t bits_len, dou
 
 /*
  * The items that a received carrier gives: 1, 2 or 4 of them, each 0, 1 or 2. `heard` 0 is a lost carrier, any other value one
- * that was heard at (i, q); every double is decided, NaN and infinities among them. Refusals 3, 5.
+ * that was heard at (i, q). A coordinate gives 2 where it is a NaN or an infinity or its size is at most f/8: 0x1p-3 for BPSK,
+ * 0x1.6a09e667f3bcdp-4 for QPSK and 0x1.43d136248490fp-5 for 16QAM. For 16QAM both of its items are 2 then, and so they are where the
+ * size is from 2f - f/8 to 2f + f/8, 0x1.2f9422c23c47ep-1 to 0x1.580e4986ccdap-1, both included. BPSK looks at i alone. Refusals 3, 5.
  */
 uint32_t hplc_slice(uint64_t modulation, uint64_t heard, double i, double q, uint8_t *items, size_t items_len, uint64_t value[2]);
 

@@ -1,6 +1,7 @@
 #!/usr/bin/env bash
 # The tables of docs/RULES.md are those of the definitions: M, N and S of each size, Table 11, the bands and the symbols' offsets. So
-# is the table of bands in docs/CLASS.md, and what include/hplc.h prints by band: the items, the sub-carriers and the limits.
+# is the table of bands in docs/CLASS.md, and what include/hplc.h prints by band: the items, the sub-carriers and the limits. The edges of
+# what slicing loses are the definitions' in docs/RULES.md and include/hplc.h.
 set -u
 cd "$(dirname "$0")/.." || exit 1
 bad=0
@@ -12,6 +13,16 @@ numbers() {
     on && sub(/\[\].*/, "") { text = text " " $0; on = 0 }
     on { text = text " " $0 }
     END { gsub(/0b/, "", text); gsub(/[^0-9]+/, " ", text); gsub(/^ | $/, "", text); print text }'
+}
+
+# number CRATE NAME: the number in the one line of a definition that starts so.
+number() { cat "crates/$1/specs/"*.antt | sed -nE "s/^$2([0-9]+)\)?$/\1/p"; }
+
+# hex NUMERATOR POWER: a numerator of 53 bits over that power of 2, as C writes it in hexadecimal.
+hex() {
+  local digits
+  digits=$(printf '%x' "$1" | sed -E 's/^1//; s/0+$//')
+  printf '0x1.%sp%d\n' "$digits" $((52 - $2))
 }
 
 # row PATTERN COLUMN: a column of the row of docs/RULES.md that starts so.
@@ -77,4 +88,14 @@ same 'the sub-carriers of include/hplc.h' "$(found include/hplc.h 'Bands 0 to 3 
 same 'the limits of include/hplc.h' "$(found include/hplc.h "below the band's limit, ([^.]+) on bands 0 to 3,")" "$(listed "${fewest[@]}")"
 offsets=$(found docs/RULES.md 'The offsets are ([0-9, ]+), on band 0 ')
 same "the symbols' offsets" "${offsets//,/}" "$(numbers bands symbolOffsets)"
+eighth=$(($(number slicing 'erasureFraction = fin false 1 \(negsuc ') + 1))
+qpsk=$(hex "$(number constellation 'qpskNumerator = ')" $((53 + eighth)))
+qam=$(hex "$(number constellation 'qamNumerator = ')" $((54 + eighth)))
+low=$(number slicing 'lowNumerator = ')
+high=$(number slicing 'highNumerator = ')
+same 'the part of f in docs/RULES.md' "$(found docs/RULES.md 'whose size is at most f\/([0-9]+)\.')" $((1 << eighth))
+same 'the ends in docs/RULES.md' "$(found docs/RULES.md 'rounded once: ([^ ]+ to [^ ]+) \(D14\)')" "$low/2^53 to $high/2^53"
+same 'the part of f in include/hplc.h' "$(found include/hplc.h 'at most f\/8: ([^ ]+ for BPSK, [^ ]+ for QPSK and [^ ]+ for 16QAM)\.')" \
+  "0x1p-$eighth for BPSK, $qpsk for QPSK and $qam for 16QAM"
+same 'the ends in include/hplc.h' "$(found include/hplc.h '2f \+ f\/8, ([^ ]+ to [^ ]+), both included')" "$(hex "$low" 53) to $(hex "$high" 53)"
 exit "$bad"

@@ -87,6 +87,9 @@ pub const TAPS: [u16; 6] = [0, 1095, 2047, 682, 1365, 731];
 /// Kind and rate of every coding.
 pub const CODINGS: [(u8, u8); 6] = [(0, 0), (1, 0), (2, 0), (3, 0), (4, 0), (4, 1)];
 
+/// The modulations by name.
+pub const MODULATION_NAMES: [&str; 3] = ["BPSK", "QPSK", "16QAM"];
+
 /// All combinations of so many bits, d0 changing fastest.
 pub fn all_bits(count: usize) -> impl Iterator<Item = Vec<u8>> {
     (0..1u8 << count).map(move |v| (0..count).map(|k| v >> k & 1).collect())
@@ -165,7 +168,7 @@ impl Mode {
     }
 
     pub const fn modulation_name(&self) -> &'static str {
-        ["BPSK", "QPSK", "16QAM"][self.modulation as usize]
+        MODULATION_NAMES[self.modulation as usize]
     }
 
     /// The entry that sends and the one that reads.

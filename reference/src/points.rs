@@ -1,4 +1,5 @@
-//! Constellation points and their slicing (01, "Points"; 000, Tables 15, 16 and 18; D1, D13, D14).
+//! Constellation points and their slicing (01, "Points"; 02, T-02; 000, Tables 15, 16 and 18; D1,
+//! D13, D14).
 
 use crate::{number, Report};
 
@@ -64,8 +65,41 @@ pub const BPSK_FACTOR: f64 = 1.0;
 pub const QPSK_FACTOR: f64 = QPSK_M as f64 / (1u64 << 53) as f64;
 /// 16QAM's factor, exact likewise.
 pub const QAM16_FACTOR: f64 = QAM16_M as f64 / (1u64 << 54) as f64;
-/// The threshold between 16QAM's inner and outer levels; doubling is exact.
-const QAM16_THRESHOLD: f64 = 2.0 * QAM16_FACTOR;
+
+/// BPSK's erasure width, the largest size that is lost about 0: f/8. It is exact: the divisor is a
+/// power of 2.
+pub const BPSK_ERASURE: f64 = BPSK_FACTOR / 8.0;
+/// QPSK's, by its own factor.
+pub const QPSK_ERASURE: f64 = QPSK_FACTOR / 8.0;
+/// 16QAM's, by its own factor.
+pub const QAM16_ERASURE: f64 = QAM16_FACTOR / 8.0;
+
+/// The middle between 16QAM's inner and outer levels, 2f; doubling is exact.
+const QAM16_MIDDLE: f64 = 2.0 * QAM16_FACTOR;
+/// The least size that is lost about 2f. f/8 and 2f are exact, so it is rounded once.
+pub const QAM16_LOW_END: f64 = QAM16_MIDDLE - QAM16_ERASURE;
+/// The largest such size, rounded once likewise.
+pub const QAM16_HIGH_END: f64 = QAM16_MIDDLE + QAM16_ERASURE;
+
+/// Whether an end is the f64 nearest to so many sixteenths of 2f, which is m/2^53. Its numerator n
+/// over 2^53 must have 53 bits, so that n − 1 and n + 1 make the next f64, and 16n must differ from
+/// so many m by less than 8.
+const fn is_nearest_end(end: f64, sixteenths: u128) -> bool {
+    let n = (end * (1u64 << 53) as f64) as u128;
+    n >> 52 == 1 && (16 * n).abs_diff(sixteenths * QAM16_M as u128) < 8
+}
+
+const _: () = assert!(is_nearest_end(QAM16_LOW_END, 15));
+const _: () = assert!(is_nearest_end(QAM16_HIGH_END, 17));
+
+/// Each last lost size before a decided one: f/8 of each modulation, then 16QAM's ends about 2f.
+pub const LOST_EDGES: [f64; 5] = [
+    BPSK_ERASURE,
+    QPSK_ERASURE,
+    QAM16_ERASURE,
+    QAM16_LOW_END,
+    QAM16_HIGH_END,
+];
 
 /// Bits a carrier holds, or None for a modulation that is not defined (000, Table 14).
 pub const fn bits_per_carrier(modulation: u64) -> Option<usize> {
@@ -124,23 +158,26 @@ pub fn map(modulation: u64, bits: &[u8]) -> Result<Point, Report> {
     })
 }
 
-/// One bit by the sign; 2 for a coordinate that is zero or not finite.
-fn slice_two(x: f64) -> u8 {
-    if x == 0.0 || !x.is_finite() {
+/// One bit by the sign; 2 for a coordinate that is not finite or whose size is at most the erasure
+/// width.
+fn slice_two(x: f64, width: f64) -> u8 {
+    if !x.is_finite() || x.abs() <= width {
         2
     } else {
         u8::from(x > 0.0)
     }
 }
 
-/// Low and high bit of a 16QAM axis; both are 2 for a coordinate that is zero, not finite or ±2f.
+/// Low and high bit of a 16QAM axis; both are 2 for a coordinate that is not finite, or of a size up
+/// to the erasure width, or of one from the low to the high end about 2f. Sizes are compared with
+/// the ends because at both the distance from 2f is above f/8 (D14).
 fn slice_four(x: f64) -> [u8; 2] {
-    let high = slice_two(x);
+    let high = slice_two(x, QAM16_ERASURE);
     let size = x.abs();
-    if high == 2 || size == QAM16_THRESHOLD {
+    if high == 2 || (QAM16_LOW_END..=QAM16_HIGH_END).contains(&size) {
         [2, 2]
     } else {
-        [u8::from(size > QAM16_THRESHOLD), high]
+        [u8::from(size > QAM16_HIGH_END), high]
     }
 }
 
@@ -152,8 +189,8 @@ pub fn slice(modulation: u64, received: Received) -> Result<Items, Report> {
     Ok(match received {
         Received::Lost => Items::new(&[2; 4][..count]),
         Received::Heard(i, q) => match modulation {
-            BPSK => Items::new(&[slice_two(i)]),
-            QPSK => Items::new(&[slice_two(i), slice_two(q)]),
+            BPSK => Items::new(&[slice_two(i, BPSK_ERASURE)]),
+            QPSK => Items::new(&[slice_two(i, QPSK_ERASURE), slice_two(q, QPSK_ERASURE)]),
             _ => {
                 let ([d0, d1], [d2, d3]) = (slice_four(i), slice_four(q));
                 Items::new(&[d0, d1, d2, d3])
@@ -167,10 +204,37 @@ mod tests {
     use super::*;
     use crate::cases::all_bits;
 
+    /// The items of a carrier that was heard.
+    fn sliced(modulation: u64, i: f64, q: f64) -> Vec<u8> {
+        let items = slice(modulation, Received::Heard(i, q)).unwrap();
+        items.as_slice().to_vec()
+    }
+
     #[test]
     fn factors_have_the_bits_d13_prints() {
         assert_eq!(QPSK_FACTOR.to_bits(), 0x3fe6_a09e_667f_3bcd);
         assert_eq!(QAM16_FACTOR.to_bits(), 0x3fd4_3d13_6248_490f);
+    }
+
+    #[test]
+    fn edges_have_the_bits_of_d13_and_d14() {
+        let bits = [
+            0x3fc0_0000_0000_0000,
+            0x3fb6_a09e_667f_3bcd,
+            0x3fa4_3d13_6248_490f,
+            0x3fe2_f942_2c23_c47e,
+            0x3fe5_80e4_986c_cda0,
+        ];
+        assert_eq!(LOST_EDGES.map(f64::to_bits), bits);
+    }
+
+    #[test]
+    fn an_end_is_nearest_and_its_neighbours_are_not() {
+        for (end, sixteenths) in [(QAM16_LOW_END, 15), (QAM16_HIGH_END, 17)] {
+            assert!(is_nearest_end(end, sixteenths));
+            assert!(!is_nearest_end(end.next_down(), sixteenths));
+            assert!(!is_nearest_end(end.next_up(), sixteenths));
+        }
     }
 
     #[test]
@@ -179,8 +243,7 @@ mod tests {
             let count = bits_per_carrier(modulation).unwrap();
             for bits in all_bits(count) {
                 let point = map(modulation, &bits).unwrap();
-                let items = slice(modulation, Received::Heard(point.i, point.q)).unwrap();
-                assert_eq!(items.as_slice(), bits);
+                assert_eq!(sliced(modulation, point.i, point.q), bits);
             }
         }
     }
@@ -203,39 +266,86 @@ mod tests {
     }
 
     #[test]
-    fn an_axis_is_lost_alone_and_only_by_exact_equality() {
+    fn an_axis_is_lost_alone() {
         let f = QAM16_FACTOR;
         let two = 2.0 * f;
-        let above = f64::from_bits(two.to_bits() + 1);
-        let below = f64::from_bits(two.to_bits() - 1);
-        let sliced = |i, q| {
-            slice(QAM16, Received::Heard(i, q))
-                .unwrap()
-                .as_slice()
-                .to_vec()
-        };
-        assert_eq!(sliced(two, f), [2, 2, 0, 1]);
-        assert_eq!(sliced(-f, -two), [0, 0, 2, 2]);
-        assert_eq!(sliced(above, below), [1, 1, 0, 1]);
-        assert_eq!(sliced(-above, -below), [1, 0, 0, 0]);
-        for lost in [0.0, -0.0, f64::NAN, f64::INFINITY, f64::NEG_INFINITY] {
-            assert_eq!(sliced(lost, f), [2, 2, 0, 1]);
-            assert_eq!(
-                slice(QPSK, Received::Heard(1.0, lost)).unwrap().as_slice(),
-                [1, 2]
-            );
-            assert_eq!(
-                slice(BPSK, Received::Heard(lost, 1.0)).unwrap().as_slice(),
-                [2]
-            );
-            assert_eq!(
-                slice(BPSK, Received::Heard(-1.0, lost)).unwrap().as_slice(),
-                [0]
-            );
-        }
+        let (above, below) = (two.next_up(), two.next_down());
+        assert_eq!(sliced(QAM16, two, f), [2, 2, 0, 1]);
+        assert_eq!(sliced(QAM16, -f, -two), [0, 0, 2, 2]);
+        assert_eq!(sliced(QAM16, above, below), [2; 4]);
+        assert_eq!(sliced(QAM16, -above, -below), [2; 4]);
         let least = f64::from_bits(1);
-        assert_eq!(sliced(least, -least), [0, 1, 0, 0]);
-        assert_eq!(sliced(f64::MAX, f64::MIN), [1, 1, 1, 0]);
+        assert_eq!(sliced(QAM16, least, -least), [2; 4]);
+        let not_finite = [f64::NAN, f64::INFINITY, f64::NEG_INFINITY];
+        for lost in [0.0, -0.0, least, -least].into_iter().chain(not_finite) {
+            assert_eq!(sliced(QAM16, lost, f), [2, 2, 0, 1]);
+            assert_eq!(sliced(QPSK, 1.0, lost), [1, 2]);
+            assert_eq!(sliced(BPSK, lost, 1.0), [2]);
+            assert_eq!(sliced(BPSK, -1.0, lost), [0]);
+        }
+    }
+
+    #[test]
+    fn the_largest_finite_numbers_are_decided() {
+        assert_eq!(sliced(QAM16, f64::MAX, f64::MIN), [1, 1, 1, 0]);
+        assert_eq!(sliced(QPSK, f64::MAX, f64::MIN), [1, 0]);
+        assert_eq!(sliced(BPSK, f64::MIN, f64::MAX), [0]);
+    }
+
+    #[test]
+    fn edges_of_16qam() {
+        const LOST: [[u8; 2]; 2] = [[2, 2], [2, 2]];
+        const INNER: [[u8; 2]; 2] = [[0, 1], [0, 0]];
+        const OUTER: [[u8; 2]; 2] = [[1, 1], [1, 0]];
+        for (size, [positive, negative]) in [
+            (0x3fa4_3d13_6248_490e, LOST),
+            (0x3fa4_3d13_6248_490f, LOST),
+            (0x3fa4_3d13_6248_4910, INNER),
+            (0x3fe2_f942_2c23_c47d, INNER),
+            (0x3fe2_f942_2c23_c47e, LOST),
+            (0x3fe2_f942_2c23_c47f, LOST),
+            (0x3fe5_80e4_986c_cd9f, LOST),
+            (0x3fe5_80e4_986c_cda0, LOST),
+            (0x3fe5_80e4_986c_cda1, OUTER),
+        ] {
+            let (f, size) = (QAM16_FACTOR, f64::from_bits(size));
+            for (x, axis) in [(size, positive), (-size, negative)] {
+                assert_eq!(sliced(QAM16, x, f), [axis, [0, 1]].concat());
+                assert_eq!(sliced(QAM16, f, x), [[0, 1], axis].concat());
+            }
+        }
+    }
+
+    /// An erasure width and the next size, with both signs, and the bit that each gives.
+    fn about_width(edge: f64) -> [(f64, u8); 4] {
+        let above = edge.next_up();
+        [(edge, 2), (-edge, 2), (above, 1), (-above, 0)]
+    }
+
+    #[test]
+    fn edges_of_qpsk() {
+        for (x, bit) in about_width(f64::from_bits(0x3fb6_a09e_667f_3bcd)) {
+            assert_eq!(sliced(QPSK, x, QPSK_FACTOR), [bit, 1]);
+            assert_eq!(sliced(QPSK, QPSK_FACTOR, x), [1, bit]);
+        }
+    }
+
+    #[test]
+    fn edges_of_bpsk_whatever_q_is() {
+        for (i, bit) in about_width(0.125) {
+            for q in [0.0, i, 1.0, -1.0, f64::MAX, f64::INFINITY, f64::NAN] {
+                assert_eq!(sliced(BPSK, i, q), [bit]);
+            }
+        }
+    }
+
+    #[test]
+    fn ends_are_lost_although_their_distance_is_above_an_eighth() {
+        for end in [QAM16_LOW_END, QAM16_HIGH_END] {
+            // The difference of numbers that are so near to each other is exact.
+            assert!((end - QAM16_MIDDLE).abs() > QAM16_ERASURE);
+            assert_eq!(sliced(QAM16, end, -end), [2; 4]);
+        }
     }
 
     #[test]

@@ -2,7 +2,7 @@
 
 use reference::cases::{all_bits, Random};
 use reference::interface::COORDINATES;
-use reference::points::{bits_per_carrier, QAM16_FACTOR, QPSK_FACTOR};
+use reference::points::{bits_per_carrier, BPSK_ERASURE, LOST_EDGES, QAM16_FACTOR, QPSK_FACTOR};
 
 use crate::cards::any_room;
 use crate::checker::Checker;
@@ -111,7 +111,7 @@ fn edges() -> Vec<u64> {
         f64::NAN,
     ];
     let mut edges = vec![0x7FF0_0000_0000_0001, i64::MAX as u64];
-    for bits in turning.map(f64::to_bits) {
+    for bits in turning.into_iter().chain(LOST_EDGES).map(f64::to_bits) {
         edges.extend([bits.saturating_sub(1), bits, bits + 1]);
     }
     let negatives: Vec<u64> = edges.iter().map(|bits| bits ^ 1 << 63).collect();
@@ -142,20 +142,26 @@ pub fn slice_systematic(checker: &mut Checker) {
     }
 }
 
-/// A coordinate's bits: an edge, a point some steps from one, or anything.
+/// The bits of a coordinate whose size is at most the limit, all sizes being equally likely.
+fn up_to(limit: f64, random: &mut Random) -> u64 {
+    let fraction = random.word() as i64 as f64 / (1u64 << 63) as f64;
+    (limit * fraction).to_bits()
+}
+
+/// A coordinate's bits: an edge, a point some steps from one, one of the size of points or of the
+/// erasure widths, or anything.
 fn any_coordinate(random: &mut Random) -> u64 {
-    match random.below(4) {
+    match random.below(5) {
         0 => random.pick(&edges()),
         1 => {
             let steps = (random.word_of_any_size() >> 12) as i64;
             let steps = if random.once_in(2) { steps } else { -steps };
             random.pick(&edges()).wrapping_add_signed(steps)
         }
-        2 => {
-            // Of the size of points: −4 to 4.
-            let fraction = random.word() as i64 as f64 / (1u64 << 61) as f64;
-            fraction.to_bits()
-        }
+        // Of the size of points.
+        2 => up_to(4.0, random),
+        // Both sides of every f/8, of which BPSK's is the largest.
+        3 => up_to(2.0 * BPSK_ERASURE, random),
         _ => random.word(),
     }
 }

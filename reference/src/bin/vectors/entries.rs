@@ -7,7 +7,7 @@ use reference::cases::{
 use reference::interface::{Entry, CARD_FIELDS, COORDINATES};
 
 use crate::labelled;
-use crate::record::{Call, Record};
+use crate::record::{slice_card, Call, Record};
 use crate::text::{coordinates, modulations};
 
 const SEED: u64 = 11612;
@@ -228,9 +228,9 @@ impl Maker {
     /// Every coordinate against every other, lost carriers, rooms and undefined modulations.
     fn slices(&mut self) {
         for (modulation, count) in modulations() {
-            let modulation = modulation as u8;
-            for i in coordinates() {
-                for q in coordinates() {
+            let (modulation, x) = (modulation as u8, coordinates());
+            for &i in &x {
+                for &q in &x {
                     self.slice(modulation, 1, [i, q], count);
                 }
             }
@@ -248,8 +248,7 @@ impl Maker {
     }
 
     fn slice(&mut self, modulation: u8, heard: u8, at: [f64; 2], room: usize) {
-        let mut card = vec![modulation, heard];
-        card.extend(at.iter().flat_map(|x| x.to_bits().to_be_bytes()));
+        let card = slice_card(modulation, heard, at);
         self.add(Call::Slice, &card, &[], room);
     }
 }

@@ -1,16 +1,23 @@
-//! The labelled records: the cases that 01 wants run by a program ("Bench checks"), each under a
-//! name to look for.
+//! The labelled records: the cases that 01 wants run by a program ("Bench checks"), and slices
+//! about the edges of what is lost (02, T-02), each under a name to look for.
 
 use reference::card::{pack, Fields, CARD_BYTES};
-use reference::cases::{modes, Mode, Random, Reception, EXAMPLE};
+use reference::cases::{modes, Mode, Random, Reception, EXAMPLE, MODULATION_NAMES};
 use reference::interface::{Entry, CARD_FIELDS};
+use reference::points::{
+    BPSK, BPSK_ERASURE, BPSK_FACTOR, QAM16, QAM16_ERASURE, QAM16_FACTOR, QAM16_HIGH_END,
+    QAM16_LOW_END, QPSK, QPSK_ERASURE, QPSK_FACTOR,
+};
 
-use crate::record::{Call, Record};
+use crate::record::{slice_card, Call, Record};
 
 const SEED: u64 = 1;
 
 /// Room for any printed card.
 const TEXT_ROOM: usize = 192;
+
+/// Room for the items of any carrier.
+const ITEMS_ROOM: usize = 4;
 
 /// The modes of the cases for which one of each will do.
 const FRAME_CONTROL: Mode = Mode::frame_control(0);
@@ -40,6 +47,7 @@ pub fn records() -> Vec<Record> {
         cases.copies(rare);
     }
     cases.pad_copies();
+    cases.slices();
     cases.0
 }
 
@@ -200,6 +208,32 @@ const OF_3_CARRIERS: [Damage; 4] = [
     (1, 0, "wrong on 1 of 3 carriers"),
     (1, 1, "wrong on 1 of 3 carriers, another lost"),
 ];
+
+// Coordinates by their size.
+
+/// A size and its name.
+type Size = (&'static str, f64);
+
+/// The largest size that is lost about 0, and the next one.
+fn about_zero(edge: f64) -> Vec<Size> {
+    vec![("f/8", edge), ("just above f/8", edge.next_up())]
+}
+
+/// Both sides of 16QAM's ends about 2f.
+const ENDS: [Size; 4] = [
+    ("just below 2f - f/8", QAM16_LOW_END.next_down()),
+    ("2f - f/8", QAM16_LOW_END),
+    ("2f + f/8", QAM16_HIGH_END),
+    ("just above 2f + f/8", QAM16_HIGH_END.next_up()),
+];
+
+/// The coordinates of these sizes, by name.
+fn both_signs(sizes: Vec<Size>) -> impl Iterator<Item = (String, f64)> {
+    sizes.into_iter().flat_map(|(name, size)| {
+        [("positive", size), ("negative", -size)]
+            .map(|(sign, x)| (format!("{sign} of size {name}"), x))
+    })
+}
 
 // Entries that do their work.
 
@@ -465,12 +499,40 @@ impl Cases {
             self.read(&damaged, &format!("bit {bit}, {what}"), PADDED.bytes());
         }
     }
+
+    /// A carrier heard at (i, q).
+    fn slice(&mut self, modulation: u64, at: [f64; 2], what: &str) {
+        let label = format!("{} sliced, {what}", MODULATION_NAMES[modulation as usize]);
+        let card = slice_card(modulation as u8, 1, at);
+        self.add(&label, Call::Slice, &card, &[], ITEMS_ROOM);
+    }
+
+    /// Each axis about the edges of what is lost, the other one decided. BPSK does not look at Q,
+    /// which is anything there.
+    fn slices(&mut self) {
+        for (what, i) in both_signs(about_zero(BPSK_ERASURE)) {
+            for (name, q) in [("0", 0.0), ("f", BPSK_FACTOR), ("NaN", f64::NAN)] {
+                self.slice(BPSK, [i, q], &format!("I {what}, Q at {name}"));
+            }
+        }
+        let of_16qam = [about_zero(QAM16_ERASURE), ENDS.to_vec()].concat();
+        for (modulation, f, sizes) in [
+            (QPSK, QPSK_FACTOR, about_zero(QPSK_ERASURE)),
+            (QAM16, QAM16_FACTOR, of_16qam),
+        ] {
+            for (what, x) in both_signs(sizes) {
+                self.slice(modulation, [x, f], &format!("I {what}, Q at f"));
+                self.slice(modulation, [f, x], &format!("I at f, Q {what}"));
+            }
+        }
+    }
 }
 
 #[cfg(test)]
 mod tests {
     use super::*;
-    use crate::record::printed;
+    use crate::record::{number_at, printed};
+    use crate::text::digits;
     use reference::cases::frame_controls;
     use std::collections::HashSet;
 
@@ -584,5 +646,52 @@ payload back, band 0, kind 4, rate 16/18, QPSK, bit 252, its only copy lost: 7 2
             .iter()
             .filter(|line| line.contains("12 of 12 copies wrong: 8 "));
         assert_eq!(wrong.count(), 2);
+    }
+
+    /// By hand from 02 (T-02): the bits of I and Q, and the items.
+    const SLICED: &str = "\
+BPSK sliced, I positive of size f/8, Q at f: 3fc0000000000000 3ff0000000000000 2
+BPSK sliced, I positive of size f/8, Q at NaN: 3fc0000000000000 7ff8000000000000 2
+BPSK sliced, I negative of size f/8, Q at 0: bfc0000000000000 0000000000000000 2
+BPSK sliced, I positive of size just above f/8, Q at 0: 3fc0000000000001 0000000000000000 1
+BPSK sliced, I positive of size just above f/8, Q at NaN: 3fc0000000000001 7ff8000000000000 1
+BPSK sliced, I negative of size just above f/8, Q at f: bfc0000000000001 3ff0000000000000 0
+QPSK sliced, I positive of size f/8, Q at f: 3fb6a09e667f3bcd 3fe6a09e667f3bcd 21
+QPSK sliced, I at f, Q positive of size f/8: 3fe6a09e667f3bcd 3fb6a09e667f3bcd 12
+QPSK sliced, I positive of size just above f/8, Q at f: 3fb6a09e667f3bce 3fe6a09e667f3bcd 11
+QPSK sliced, I at f, Q positive of size just above f/8: 3fe6a09e667f3bcd 3fb6a09e667f3bce 11
+QPSK sliced, I at f, Q negative of size just above f/8: 3fe6a09e667f3bcd bfb6a09e667f3bce 10
+16QAM sliced, I positive of size f/8, Q at f: 3fa43d136248490f 3fd43d136248490f 2201
+16QAM sliced, I negative of size f/8, Q at f: bfa43d136248490f 3fd43d136248490f 2201
+16QAM sliced, I positive of size just above f/8, Q at f: 3fa43d1362484910 3fd43d136248490f 0101
+16QAM sliced, I negative of size just above f/8, Q at f: bfa43d1362484910 3fd43d136248490f 0001
+16QAM sliced, I positive of size just below 2f - f/8, Q at f: 3fe2f9422c23c47d 3fd43d136248490f 0101
+16QAM sliced, I negative of size just below 2f - f/8, Q at f: bfe2f9422c23c47d 3fd43d136248490f 0001
+16QAM sliced, I positive of size 2f - f/8, Q at f: 3fe2f9422c23c47e 3fd43d136248490f 2201
+16QAM sliced, I negative of size 2f - f/8, Q at f: bfe2f9422c23c47e 3fd43d136248490f 2201
+16QAM sliced, I positive of size 2f + f/8, Q at f: 3fe580e4986ccda0 3fd43d136248490f 2201
+16QAM sliced, I negative of size 2f + f/8, Q at f: bfe580e4986ccda0 3fd43d136248490f 2201
+16QAM sliced, I positive of size just above 2f + f/8, Q at f: 3fe580e4986ccda1 3fd43d136248490f 1101
+16QAM sliced, I negative of size just above 2f + f/8, Q at f: bfe580e4986ccda1 3fd43d136248490f 1001
+16QAM sliced, I at f, Q positive of size 2f - f/8: 3fd43d136248490f 3fe2f9422c23c47e 0122
+16QAM sliced, I at f, Q negative of size just above 2f + f/8: 3fd43d136248490f bfe580e4986ccda1 0110
+";
+
+    /// A slice's label, the bits of its coordinates, and its items.
+    fn sliced(record: &Record) -> String {
+        let [i, q] = [2, 10].map(|at| number_at(&record.card, at));
+        let items = digits(&record.output);
+        format!("{}: {i:016x} {q:016x} {items}", record.label)
+    }
+
+    #[test]
+    fn slices_are_answered_as_02_says() {
+        let records = records();
+        let slices = records.iter().filter(|record| record.call == Call::Slice);
+        let lines: HashSet<String> = slices.map(sliced).collect();
+        assert_eq!(lines.len(), 44);
+        for answer in SLICED.lines() {
+            assert!(lines.contains(answer), "{answer}");
+        }
     }
 }

@@ -65,13 +65,20 @@ pub struct Record {
 }
 
 /// The number of 8 bytes that starts at a byte of a card.
-fn number_at(card: &[u8], at: usize) -> u64 {
+pub fn number_at(card: &[u8], at: usize) -> u64 {
     number_of(&card[at..at + 8])
 }
 
 fn number_of(bytes: &[u8]) -> u64 {
     let bytes = bytes.iter();
     bytes.fold(0, |number, &byte| number << 8 | u64::from(byte))
+}
+
+/// A slice's card: the modulation, `heard`, and the bits of I and Q.
+pub fn slice_card(modulation: u8, heard: u8, at: [f64; 2]) -> Vec<u8> {
+    let mut card = vec![modulation, heard];
+    card.extend(at.iter().flat_map(|x| x.to_bits().to_be_bytes()));
+    card
 }
 
 /// The call by the reference, on an output of zeros. Gives the report and the written bytes.
@@ -267,6 +274,7 @@ mod tests {
         let mut card = vec![1, 1];
         card.extend((-0.5f64).to_bits().to_be_bytes());
         card.extend(f64::NAN.to_bits().to_be_bytes());
+        assert_eq!(slice_card(1, 1, [-0.5, f64::NAN]), card);
         let record = Record::new("", Call::Slice, &card, &[], COORDINATES);
         assert_eq!(record.output, [0, 2]);
     }

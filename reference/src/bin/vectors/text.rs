@@ -3,12 +3,12 @@
 use std::io::{self, Write};
 
 use reference::cases::{all_bits, CODINGS, TAPS};
-use reference::points::{self, Received, QAM16_FACTOR, QPSK_FACTOR};
+use reference::points::{self, Received, LOST_EDGES, QAM16_FACTOR, QPSK_FACTOR};
 use reference::scrambler::Scrambler;
 use reference::{interleaver, turbo};
 
 /// Items or bits as digits.
-fn digits(items: &[u8]) -> String {
+pub fn digits(items: &[u8]) -> String {
     items.iter().map(|item| char::from(b'0' + item)).collect()
 }
 
@@ -45,15 +45,21 @@ pub fn print_interleaver(out: &mut impl Write) -> io::Result<()> {
     Ok(())
 }
 
-/// The coordinates that are sliced against each other.
-pub fn coordinates() -> [f64; 21] {
+/// An edge of what is lost between its neighbours, then the same three with the sign turned.
+fn about(edge: f64) -> [f64; 6] {
+    let (below, above) = (edge.next_down(), edge.next_up());
+    [below, edge, above, -below, -edge, -above]
+}
+
+/// The coordinates that are sliced against each other: 21 of every sort, then six about each edge
+/// of what is lost. The printed vectors name them by their indexes, so new ones go to the end.
+pub fn coordinates() -> Vec<f64> {
     let f = QAM16_FACTOR;
     let two = 2.0 * f;
-    let above = f64::from_bits(two.to_bits() + 1);
-    let below = f64::from_bits(two.to_bits() - 1);
+    let (above, below) = (two.next_up(), two.next_down());
     let three = 3.0 * f;
     let least = f64::from_bits(1);
-    [
+    let mut coordinates = vec![
         0.0,
         -0.0,
         f64::INFINITY,
@@ -75,7 +81,9 @@ pub fn coordinates() -> [f64; 21] {
         -f64::MAX,
         QPSK_FACTOR,
         -QPSK_FACTOR,
-    ]
+    ];
+    coordinates.extend(LOST_EDGES.into_iter().flat_map(about));
+    coordinates
 }
 
 /// Modulations 0, 1 and 2 with the bits a carrier holds.
@@ -153,4 +161,29 @@ pub fn print_scrambler(out: &mut impl Write) -> io::Result<()> {
         register = next;
     }
     writeln!(out, "{}", digits(&bits))
+}
+
+#[cfg(test)]
+mod tests {
+    use super::*;
+
+    #[test]
+    fn edges_follow_the_other_coordinates() {
+        let bits: Vec<u64> = coordinates().into_iter().map(f64::to_bits).collect();
+        assert_eq!(bits.len(), 51);
+        assert_eq!(bits[20], 0xbfe6_a09e_667f_3bcd);
+        let about_an_eighth = [
+            0x3fbf_ffff_ffff_ffff,
+            0x3fc0_0000_0000_0000,
+            0x3fc0_0000_0000_0001,
+            0xbfbf_ffff_ffff_ffff,
+            0xbfc0_0000_0000_0000,
+            0xbfc0_0000_0000_0001,
+        ];
+        assert_eq!(bits[21..27], about_an_eighth);
+        assert_eq!(bits[28], 0x3fb6_a09e_667f_3bcd);
+        assert_eq!(bits[34], 0x3fa4_3d13_6248_490f);
+        assert_eq!(bits[40], 0x3fe2_f942_2c23_c47e);
+        assert_eq!(bits[50], 0xbfe5_80e4_986c_cda1);
+    }
 }
