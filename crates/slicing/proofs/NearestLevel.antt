@@ -118,13 +118,16 @@ positive⁻ X Y h k (suc zero) l n = omega arith
 positive⁻ X Y h k (suc (suc j)) l n = absurd (omega arith)
 
 -- the factor is positive, and a size above the width is
-abbrev Positive : Float → Type 0
+abbrev pub Positive : Float → Type 0
 Positive f = (k : ℕ) × (d : ℤ) × (f ≡ fin false k d) × (0 < k)
 
 factor-at : (a b : Bool) → Positive (cond a (factorOf 0) (cond b (factorOf 1) (factorOf 2)))
 factor-at true b = (_, _, refl, lit< tt)
 factor-at false true = (_, _, refl, lit< tt)
 factor-at false false = (_, _, refl, lit< tt)
+
+pub factor-positive : (m : ℕ) → Positive (factorOf m)
+factor-positive m = factor-at (eqb m 0) (eqb m 1)
 
 above-pos : (w : Float) (n : ℕ) (e : ℤ) → Size w → le (fin false n e) w ≡ false → 0 < n
 above-pos w n e p t =
@@ -152,6 +155,6 @@ pub nearest2 : (m : ℕ) (x : Float) (k j : ℕ) → reading2 m x ≡ level k �
 nearest2 m nan k j e l n = no e
 nearest2 m (inf s) k j e l n = no e
 nearest2 m (fin s a b) k j e l n =
-    let u = factor-at (eqb m 0) (eqb m 1) in
+    let u = factor-positive m in
     subst (λ (f : Float). distance f (fin s a b) (negative2 k) 1 < distance f (fin s a b) (negative2 j) 1) (sym (u .2))
     (found2 (erasureWidth m) s a b k (u .0) (u .1) (width-size m) (u .3) e j l n)

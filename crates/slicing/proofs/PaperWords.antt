@@ -1,64 +1,82 @@
 -- Slicing is what the papers word over exact numbers. Assumes nothing.
-use Prim.Native.Nat.{ℕ, _*_, _≤_}
+use Prim.Native.Nat.{ℕ, _*_, _^_, _<_}
 use native.Mathlib.Omega.{arith}
-use native.Mathlib.Nat.{le-of-lt}
-use mathlib.Core.Path.{_≡_, refl, sym, _∙_, ap}
+use native.Mathlib.Nat.{le-of-lt, mul-le-mul-left, mul-lt-mul-of-pos-left, mul-pos}
+use mathlib.Core.Path.{_≡_, refl, sym, _∙_, ap, ap₂}
 use mathlib.Core.Bool.{Bool, true, false, not, cond, _&&_, _||_, Bool·not-not, true≢false, false≢true}
-use borrow.Author.Tests.{ltb-false, lt-ltb, le-ltb, leb-true, leb-false}
-use lib.Dec.{leb, ltb, eqb}
+use borrow.Author.Tests.{lt-ltb, le-ltb, le-leb, lt-leb, leb-true, leb-false}
+use lib.Dec.{leb, ltb, lit<}
 use lib.IntN.{ℤ}
-use lib.Ieee.{Float, nan, inf, fin, binary64, up, down, add, sub, mul, lt, le}
+use lib.Ieee.{Float, nan, inf, fin, up, down, sub, mul, lt, le}
+use lib.Ieee.Exact.{HasValue}
+use lib.Ieee.Fits.{down-pos}
 use Rattle.bits.proofs.BoolLaws.{test-cases}
 use Rattle.constellation.specs.Factors.{factorOf}
-use Rattle.slicing.specs.Slicing.{Reading, level, lost, erasureFraction, lower, upper, reading2, reading4}
-use Rattle.slicing.specs.Distances.{scaled, atMost}
-use Rattle.slicing.specs.Ends.{lowEnd, highEnd}
+use Rattle.slicing.specs.Slicing.{Reading, level, lost, erasureWidth, lower, upper, reading2, reading4}
+use Rattle.slicing.specs.Distances.{atMost}
+use Rattle.slicing.specs.Ends.{Eighths, lowNumerator, highNumerator, lowEnd, highEnd}
 use Rattle.slicing.specs.PaperWords.{atMostEighth, belowTwice, worded2, worded4}
-use Rattle.slicing.proofs.DecisionLaws.{le-not-lt}
-use Rattle.slicing.proofs.NearestLevel.{within, beyond}
+use Rattle.slicing.proofs.DecisionLaws.{Size, width-size, le-not-lt}
+use Rattle.slicing.proofs.EndLaws.{width-exact, lower-value, upper-value}
+use Rattle.slicing.proofs.NearestLevel.{factor-positive, within, beyond}
 
--- ---- comparisons of two sizes, over whole numbers
+-- ---- two sizes compared, over whole numbers
 
--- c ≤ d is b ≤ a on another scale, and so the reverse of a < b
-reverse : (a b c d : ℕ) → (b ≤ a → c ≤ d) → (c ≤ d → b ≤ a) → ltb a b ≡ not (leb c d)
-reverse a b c d f g =
-    test-cases (leb c d) (λ t. le-ltb a b (g (leb-true c d t)) ∙ sym (ap not t)) λ t.
-    test-cases (ltb a b) (λ u. u ∙ sym (ap not t)) (λ u. absurd (let h = f (ltb-false a b u) in let k = leb-false c d t in omega arith))
+below : (a b : ℕ) → ltb a b ≡ not (leb b a)
+below a b = test-cases (leb b a) (λ t. le-ltb a b (leb-true b a t) ∙ sym (ap not t)) (λ t. lt-ltb a b (leb-false b a t) ∙ sym (ap not t))
 
--- n · 2^e against k · 2^d
-module _ (n k : ℕ) (e d : ℤ) (a b : ℕ) where
-  lt-is : (k * up d * down e ≤ n * up e * down d → a ≤ b) → (a ≤ b → k * up d * down e ≤ n * up e * down d)
-      → lt (fin false n e) (fin false k d) ≡ not (leb a b)
-  unfolding lt
-  lt-is f g = reverse (n * up e * down d) (k * up d * down e) a b f g
+alike : (r a b : ℕ) → 0 < r → leb (r * a) (r * b) ≡ leb a b
+alike r a b h =
+    test-cases (leb a b) (λ t. le-leb (r * a) (r * b) (mul-le-mul-left r (leb-true a b t)) ∙ sym t)
+    (λ t. lt-leb (r * a) (r * b) (mul-lt-mul-of-pos-left (leb-false a b t) h) ∙ sym t)
 
-  le-is : (n * up e * down d ≤ k * up d * down e → a ≤ b) → (a ≤ b → n * up e * down d ≤ k * up d * down e)
-      → le (fin false n e) (fin false k d) ≡ leb a b
-  unfolding lt
-  le-is f g = le-not-lt n k e d ∙ ap not (reverse (k * up d * down e) (n * up e * down d) a b f g) ∙ Bool·not-not (leb a b)
+-- the same two numbers on two scales
+rescaled : (r t a b c d : ℕ) → 0 < r → 0 < t → r * a ≡ t * c → r * b ≡ t * d → leb a b ≡ leb c d
+rescaled r t a b c d h l x y = sym (alike r a b h) ∙ ap₂ leb x y ∙ alike t c d l
 
-module _ (s : Bool) (n : ℕ) (e : ℤ) where
-  eighth-at : (a b : Bool) → let f = cond a (factorOf 0) (cond b (factorOf 1) (factorOf 2)) in
-      le (fin false n e) (mul binary64 f erasureFraction) ≡ atMostEighth f (fin s n e)
-  unfolding mul
-  eighth-at true b = le-is n _ e _ (8 * scaled (fin s n e) (factorOf 0)) (scaled (factorOf 0) (fin s n e)) (λ h. omega arith) (λ h. omega arith)
-  eighth-at false true = le-is n _ e _ (8 * scaled (fin s n e) (factorOf 1)) (scaled (factorOf 1) (fin s n e)) (λ h. omega arith) (λ h. omega arith)
-  eighth-at false false = le-is n _ e _ (8 * scaled (fin s n e) (factorOf 2)) (scaled (factorOf 2) (fin s n e)) (λ h. omega arith) (λ h. omega arith)
-
-  from-low : lt (fin false n e) lower ≡ not (atMost lowEnd (fin s n e))
-  unfolding sub mul
-  from-low = lt-is n _ e _ (scaled lowEnd (fin s n e)) (scaled (fin s n e) lowEnd) (λ h. omega arith) (λ h. omega arith)
-
-  to-high : le (fin false n e) upper ≡ atMost (fin s n e) highEnd
-  unfolding add mul
-  to-high = le-is n _ e _ (scaled (fin s n e) highEnd) (scaled highEnd (fin s n e)) (λ h. omega arith) (λ h. omega arith)
+-- a / c at most p / q
+le-value : (x y : Float) (a c p q : ℕ) → 0 < c → 0 < q → HasValue x false a c → HasValue y false p q → le x y ≡ leb (a * q) (p * c)
+unfolding lt
+le-value nan y a c p q l h u v = absurd u
+le-value (inf s) y a c p q l h u v = absurd u
+le-value (fin s n e) nan a c p q l h u v = absurd v
+le-value (fin s n e) (inf t) a c p q l h u v = absurd v
+le-value (fin s n e) (fin t k d) a c p q l h u v =
+    let x = n * up e * down d in
+    let y = k * up d * down e in
+    (λ i. le (fin (u .0 i) n e) (fin (v .0 i) k d))
+    ∙ le-not-lt n k e d ∙ ap not (below y x) ∙ Bool·not-not (leb x y)
+    ∙ rescaled (c * q) (down e * down d) x y (a * q) (p * c) (mul-pos l h) (mul-pos (down-pos e) (down-pos d))
+    (omega (arith, ap (λ (z : ℕ). z * (q * down d)) (u .1))) (omega (arith, ap (λ (z : ℕ). z * (c * down e)) (v .1)))
 
 -- ---- the words
+
+-- a width that is an eighth of f tells what is at most that
+eighth : (s : Bool) (n : ℕ) (e : ℤ) (f w : Float) → Size f → Size w → Eighths 1 f w → le (fin false n e) w ≡ atMostEighth f (fin s n e)
+eighth s n e f w (c, b, x) (k, d, y) h =
+    let v = rw (x, y) at h in
+    rw (x, y)
+    (le-value (fin false n e) (fin false k d) (n * up e) (down e) (c * up b) (8 * down b) (down-pos e) (omega (arith, down-pos b)) (refl, refl) (refl, omega (arith, v .1))
+    ∙ ap (λ (z : ℕ). leb z (c * up b * down e)) (omega arith))
+
+up-to-eighth : (m : ℕ) (s : Bool) (n : ℕ) (e : ℤ) → le (fin false n e) (erasureWidth m) ≡ atMostEighth (factorOf m) (fin s n e)
+up-to-eighth m s n e =
+    let f = factor-positive m in
+    eighth s n e (factorOf m) (erasureWidth m) (f .0, f .1, f .2) (width-size m) (width-exact m)
 
 pub words2 : (m : ℕ) (x : Float) → reading2 m x ≡ worded2 m x
 words2 m nan = refl
 words2 m (inf s) = refl
-words2 m (fin s n e) = ap (λ (t : Bool). cond t lost (cond s (level 0) (level 1))) (eighth-at s n e (eqb m 0) (eqb m 1))
+words2 m (fin s n e) = ap (λ (t : Bool). cond t lost (cond s (level 0) (level 1))) (up-to-eighth m s n e)
+
+from-low : (n : ℕ) (e : ℤ) → lt (fin false n e) lower ≡ not (atMost lowEnd (fin false n e))
+unfolding sub mul
+from-low n e =
+    sym (ap not (le-not-lt _ n _ e) ∙ Bool·not-not (lt (fin false n e) lower))
+    ∙ ap not (le-value lower (fin false n e) lowNumerator (2 ^ 53) (n * up e) (down e) (lit< tt) (down-pos e) lower-value (refl, refl))
+
+to-high : (n : ℕ) (e : ℤ) → le (fin false n e) upper ≡ atMost (fin false n e) highEnd
+to-high n e = le-value (fin false n e) upper (n * up e) (down e) highNumerator (2 ^ 53) (down-pos e) (lit< tt) (refl, refl) upper-value
 
 -- a: at most f/8; b: from the low end on; h: up to the high end; t: below 2f
 parts : (a b h t : Bool) (inner outer : Reading) → (b ≡ false → t ≡ true) → (h ≡ false → t ≡ false)
@@ -74,9 +92,9 @@ pub words4 : (x : Float) → reading4 x ≡ worded4 x
 words4 nan = refl
 words4 (inf s) = refl
 words4 (fin s n e) =
-    (λ i. cond (eighth-at s n e false false i) lost (cond (from-low s n e i) inner (cond (to-high s n e i) lost outer)))
+    (λ i. cond (up-to-eighth 2 s n e i) lost (cond (from-low n e i) inner (cond (to-high n e i) lost outer)))
     ∙ parts (atMostEighth (factorOf 2) (fin s n e)) (atMost lowEnd (fin s n e)) (atMost (fin s n e) highEnd) (belowTwice (factorOf 2) (fin s n e)) inner outer
-    (λ t. lt-ltb _ _ (within n e (from-low s n e ∙ ap not t))) (λ t. le-ltb _ _ (le-of-lt (beyond n e (to-high s n e ∙ t))))
+    (λ t. lt-ltb _ _ (within n e (from-low n e ∙ ap not t))) (λ t. le-ltb _ _ (le-of-lt (beyond n e (to-high n e ∙ t))))
   where
     inner : Reading
     inner = cond s (level 1) (level 2)
