@@ -108,7 +108,8 @@ uint32_t hplc_card_write(uint64_t version, uint64_t band, uint64_t kind, uint64_
 uint32_t hplc_card_text(const uint8_t *card, size_t card_len, uint8_t *out, size_t out_len, uint64_t value[2]);
 
 /*
- * The constellation point of 1, 2 or 4 bits (modulation 0 BPSK, 1 QPSK, 2 16QAM): I and Q into `point`.
+ * The constellation point of 1, 2 or 4 bits (modulation 0 BPSK, 1 QPSK, 2 16QAM): I and Q into `point`, each a level times the factor f of
+ * the modulation. The levels are -1 and 1, for 16QAM -3 and 3 too, and 0 for BPSK's Q; f is 1, and near to 1/sqrt(2) and 1/sqrt(10).
  * Refusals 3, 4 with bits_len, 5 with 2, 6.
  */
 uint32_t hplc_map(uint64_t modulation, const uint8_t *bits, size_t bits_len, double *point, size_t point_len, uint64_t value[2]);

@@ -88,14 +88,14 @@ same 'the sub-carriers of include/hplc.h' "$(found include/hplc.h 'Bands 0 to 3 
 same 'the limits of include/hplc.h' "$(found include/hplc.h "below the band's limit, ([^.]+) on bands 0 to 3,")" "$(listed "${fewest[@]}")"
 offsets=$(found docs/RULES.md 'The offsets are ([0-9, ]+), on band 0 ')
 same "the symbols' offsets" "${offsets//,/}" "$(numbers bands symbolOffsets)"
-eighth=$(($(number slicing 'erasureFraction = fin false 1 \(negsuc ') + 1))
-qpsk=$(hex "$(number constellation 'qpskNumerator = ')" $((53 + eighth)))
-qam=$(hex "$(number constellation 'qamNumerator = ')" $((54 + eighth)))
+power=$(($(number slicing 'erasureFraction = fin false 1 \(negsuc ') + 1))
+qpsk=$(hex "$(number constellation 'qpskNumerator = ')" $((53 + power)))
+qam=$(hex "$(number constellation 'qamNumerator = ')" $((54 + power)))
 low=$(number slicing 'lowNumerator = ')
 high=$(number slicing 'highNumerator = ')
-same 'the part of f in docs/RULES.md' "$(found docs/RULES.md 'whose size is at most f\/([0-9]+)\.')" $((1 << eighth))
+same 'the part of f in docs/RULES.md' "$(found docs/RULES.md 'whose size is at most f\/([0-9]+)\.')" $((1 << power))
 same 'the ends in docs/RULES.md' "$(found docs/RULES.md 'rounded once: ([^ ]+ to [^ ]+) \(D14\)')" "$low/2^53 to $high/2^53"
 same 'the part of f in include/hplc.h' "$(found include/hplc.h 'at most f\/8: ([^ ]+ for BPSK, [^ ]+ for QPSK and [^ ]+ for 16QAM)\.')" \
-  "0x1p-$eighth for BPSK, $qpsk for QPSK and $qam for 16QAM"
+  "0x1p-$power for BPSK, $qpsk for QPSK and $qam for 16QAM"
 same 'the ends in include/hplc.h' "$(found include/hplc.h '2f \+ f\/8, ([^ ]+ to [^ ]+), both included')" "$(hex "$low" 53) to $(hex "$high" 53)"
 exit "$bad"

@@ -77,14 +77,18 @@ same4 k d low high (fin false n e) = above k n d e (cond (lt (fin false n e) low
 abbrev pub Size : Float → Type 0
 Size w = (n : ℕ) × (d : ℤ) × (w ≡ fin false n d)
 
-size-at : (a b : Bool) → Size (mul binary64 (cond a (factorOf 0) (cond b (factorOf 1) (factorOf 2))) erasureFraction)
-unfolding mul
-size-at true b = (_, _, refl)
-size-at false true = (_, _, refl)
-size-at false false = (_, _, refl)
+-- what holds of the three factors holds at every modulation
+pub each-factor : (P : Float → Type 0) → P (factorOf 0) → P (factorOf 1) → P (factorOf 2) → (m : ℕ) → P (factorOf m)
+each-factor P x y z m = go (eqb m 0) (eqb m 1)
+  where
+    go : (a b : Bool) → P (cond a (factorOf 0) (cond b (factorOf 1) (factorOf 2)))
+    go true b = x
+    go false true = y
+    go false false = z
 
 pub width-size : (m : ℕ) → Size (erasureWidth m)
-width-size m = size-at (eqb m 0) (eqb m 1)
+unfolding mul
+width-size m = each-factor (λ f. Size (mul binary64 f erasureFraction)) (_, _, refl) (_, _, refl) (_, _, refl) m
 
 -- ---- what a path through the code gives
 

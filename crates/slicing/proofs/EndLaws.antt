@@ -2,25 +2,21 @@
 use Prim.Native.Nat.{ℕ, _*_, _^_}
 use native.Mathlib.Omega.{arith}
 use mathlib.Core.Path.{_≡_, refl}
-use mathlib.Core.Bool.{Bool, true, false, cond}
-use lib.Dec.{eqb, lit<, lit≤}
+use mathlib.Core.Bool.{false}
+use lib.Dec.{lit<, lit≤}
 use lib.Ieee.{binary64, add, sub, mul, round, toBits}
 use lib.Ieee.Exact.{HasValue}
 use Rattle.constellation.specs.Factors.{qamNumerator, factorOf}
 use Rattle.slicing.specs.Slicing.{erasureFraction, erasureWidth, threshold, lower, upper}
 use Rattle.slicing.specs.Ends.{Eighths, lowNumerator, highNumerator, NearestEnd}
+use Rattle.slicing.proofs.DecisionLaws.{each-factor}
 
 -- ---- the width and the threshold
 
-width-at : (a b : Bool) → let f = cond a (factorOf 0) (cond b (factorOf 1) (factorOf 2)) in Eighths 1 f (mul binary64 f erasureFraction)
-unfolding mul
-width-at true b = (lit< tt, refl)
-width-at false true = (lit< tt, refl)
-width-at false false = (lit< tt, refl)
-
 -- the width is an eighth of f at every modulation, and the threshold is 2f
 pub width-exact : (m : ℕ) → Eighths 1 (factorOf m) (erasureWidth m)
-width-exact m = width-at (eqb m 0) (eqb m 1)
+unfolding mul
+width-exact m = each-factor (λ f. Eighths 1 f (mul binary64 f erasureFraction)) (lit< tt, refl) (lit< tt, refl) (lit< tt, refl) m
 
 pub threshold-exact : Eighths 16 (factorOf 2) threshold
 unfolding mul

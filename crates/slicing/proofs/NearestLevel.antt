@@ -15,7 +15,7 @@ use Rattle.bits.proofs.NumberLaws.{below-four}
 use Rattle.constellation.specs.Factors.{factorOf}
 use Rattle.slicing.specs.Slicing.{level, lost, erasureWidth, lower, upper, read2, reading2, reading4}
 use Rattle.slicing.specs.Distances.{scaled, apart, distance, negative2, negative4, size4}
-use Rattle.slicing.proofs.DecisionLaws.{Size, width-size, le-not-lt}
+use Rattle.slicing.proofs.DecisionLaws.{Size, each-factor, width-size, le-not-lt}
 
 -- ---- a size X and the unit Y
 
@@ -121,13 +121,8 @@ positive⁻ X Y h k (suc (suc j)) l n = absurd (omega arith)
 abbrev pub Positive : Float → Type 0
 Positive f = (k : ℕ) × (d : ℤ) × (f ≡ fin false k d) × (0 < k)
 
-factor-at : (a b : Bool) → Positive (cond a (factorOf 0) (cond b (factorOf 1) (factorOf 2)))
-factor-at true b = (_, _, refl, lit< tt)
-factor-at false true = (_, _, refl, lit< tt)
-factor-at false false = (_, _, refl, lit< tt)
-
 pub factor-positive : (m : ℕ) → Positive (factorOf m)
-factor-positive m = factor-at (eqb m 0) (eqb m 1)
+factor-positive m = each-factor Positive (_, _, refl, lit< tt) (_, _, refl, lit< tt) (_, _, refl, lit< tt) m
 
 above-pos : (w : Float) (n : ℕ) (e : ℤ) → Size w → le (fin false n e) w ≡ false → 0 < n
 above-pos w n e p t =

@@ -24,7 +24,7 @@ worded2 modulation nan = lost
 worded2 modulation (inf s) = lost
 worded2 modulation (fin s n e) = cond (atMostEighth (factorOf modulation) (fin s n e)) lost (cond s (level 0) (level 1))
 
--- neither does a size about 2f; otherwise the sign, and the side of 2f, gives the level
+-- a size about 2f gives nothing either; otherwise the sign, and the side of 2f, gives the level
 abbrev pub worded4 : Float → Reading
 worded4 nan = lost
 worded4 (inf s) = lost

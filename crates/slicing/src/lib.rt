@@ -1,5 +1,5 @@
-// Received carriers back to items (paper 01, "Points"), by the factors and labels of `constellation`: 0, 1, or 2 where a coordinate is
-// lost. The thresholds and the erasure width stand here.
+// Received carriers back to items (paper 01, "Points"; paper 02, T-02), by the factors and labels of `constellation`: 0, 1, or 2 where
+// a coordinate is lost. The threshold and the erasure width stand here.
 //
 // Public entries, none with a `requires`: slice, and slice_into, the same over lent memory. The rest is internal.
 use constellation::Pair;
@@ -69,7 +69,7 @@ fn axis2(modulation: u8, x: f64) -> u8
     2
 }
 
-// The items of a 16QAM coordinate by its size; the second one goes by its sign.
+// The items of a 16QAM coordinate by its size. The second one is given by its sign, and about 2f both are 2.
 fn sized4(size: f64, second: u8) -> Pair
     ensures { λ r. ⌜ r ≡ cond (lt size lower) (pair 0 second) (cond (le size upper) (pair 2 2) (pair 1 second)) ⌝ }
 {
