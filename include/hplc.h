@@ -76,9 +76,10 @@ enum hplc_number {
 
 /*
  * Stack of a call in bytes, on x86-64: measured over every mode (tests/stack.sh), not proved. CARD is of each call about cards, POINT of
- * each about points, places and sub-carriers.
+ * each about points, places and sub-carriers. Where memcpy and memset are bound when they are first called, the dynamic linker takes some
+ * stack besides, which goes by the machine.
  */
-#define HPLC_STACK_CARD 5632
+#define HPLC_STACK_CARD 2304
 #define HPLC_STACK_POINT 512
 #define HPLC_STACK_FC_SEND 8704
 #define HPLC_STACK_FC_READ 10240
