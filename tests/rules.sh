@@ -1,7 +1,8 @@
 #!/usr/bin/env bash
 # The tables of docs/RULES.md are those of the definitions: M, N and S of each size, Table 11, the bands and the symbols' offsets. So
 # is the table of bands in docs/CLASS.md, and what include/hplc.h prints by band: the items, the sub-carriers and the limits. The edges of
-# what slicing loses are the definitions' in docs/RULES.md and include/hplc.h.
+# what slicing loses are the definitions' in docs/RULES.md and include/hplc.h. The requests that docs/RULES.md names are those of
+# docs/changes.
 set -u
 cd "$(dirname "$0")/.." || exit 1
 bad=0
@@ -44,7 +45,7 @@ listed() {
 # same NAME A B: two texts that must be equal, and not empty.
 same() {
   if [ -z "$2" ] || [ "$2" != "$3" ]; then
-    printf '%s: %s printed, %s in the definitions\n' "$1" "$2" "$3"
+    printf '%s: printed is %s, and should be %s\n' "$1" "$2" "$3"
     bad=1
   fi
 }
@@ -98,4 +99,7 @@ same 'the ends in docs/RULES.md' "$(found docs/RULES.md 'rounded once: ([^ ]+ to
 same 'the part of f in include/hplc.h' "$(found include/hplc.h 'at most f\/8: ([^ ]+ for BPSK, [^ ]+ for QPSK and [^ ]+ for 16QAM)\.')" \
   "0x1p-$power for BPSK, $qpsk for QPSK and $qam for 16QAM"
 same 'the ends in include/hplc.h' "$(found include/hplc.h '2f \+ f\/8, ([^ ]+ to [^ ]+), both included')" "$(hex "$low" 53) to $(hex "$high" 53)"
+requests=(docs/changes/T-*.md)
+requests=("${requests[@]##*/}")
+same 'the requests of docs/RULES.md' "$(found docs/RULES.md 'been met amend them \(([^)]+)\)')" "$(listed "${requests[@]%.md}")"
 exit "$bad"
