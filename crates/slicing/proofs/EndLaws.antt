@@ -3,7 +3,7 @@ use Prim.Native.Nat.{ℕ, _*_, _^_}
 use native.Mathlib.Omega.{arith}
 use mathlib.Core.Path.{_≡_, refl}
 use mathlib.Core.Bool.{false}
-use lib.Dec.{lit<, lit≤}
+use lib.Dec.{lit<}
 use lib.Ieee.{binary64, add, sub, mul, round, toBits}
 use lib.Ieee.Exact.{HasValue}
 use Rattle.constellation.specs.Factors.{qamNumerator, factorOf}
@@ -52,10 +52,10 @@ upper-bits = refl
 
 -- that number is the nearest one
 pub low-nearest : NearestEnd 15 lowNumerator
-low-nearest = (lit≤ tt, lit< tt, lit< tt, lit< tt)
+low-nearest = (lit< tt, lit< tt, lit< tt, lit< tt)
 
 pub high-nearest : NearestEnd 17 highNumerator
-high-nearest = (lit≤ tt, lit< tt, lit< tt, lit< tt)
+high-nearest = (lit< tt, lit< tt, lit< tt, lit< tt)
 
 -- there is one nearest number
 pub nearest-end-one : (k : ℕ) {a b : ℕ} → NearestEnd k a → NearestEnd k b → a ≡ b
