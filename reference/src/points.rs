@@ -66,12 +66,10 @@ pub const QPSK_FACTOR: f64 = QPSK_M as f64 / (1u64 << 53) as f64;
 /// 16QAM's factor, exact likewise.
 pub const QAM16_FACTOR: f64 = QAM16_M as f64 / (1u64 << 54) as f64;
 
-/// BPSK's erasure width, the largest size that is lost about 0: f/8. It is exact: the divisor is a
-/// power of 2.
+// A modulation's erasure width is f/8 by its own factor: the largest size that is lost about 0. It
+// is exact, since 8 is a power of 2.
 pub const BPSK_ERASURE: f64 = BPSK_FACTOR / 8.0;
-/// QPSK's, by its own factor.
 pub const QPSK_ERASURE: f64 = QPSK_FACTOR / 8.0;
-/// 16QAM's, by its own factor.
 pub const QAM16_ERASURE: f64 = QAM16_FACTOR / 8.0;
 
 /// The middle between 16QAM's inner and outer levels, 2f; doubling is exact.
@@ -81,18 +79,18 @@ pub const QAM16_LOW_END: f64 = QAM16_MIDDLE - QAM16_ERASURE;
 /// The largest such size, rounded once likewise.
 pub const QAM16_HIGH_END: f64 = QAM16_MIDDLE + QAM16_ERASURE;
 
-/// Whether an end is the f64 nearest to so many sixteenths of 2f, which is m/2^53. Its numerator n
-/// over 2^53 must have 53 bits, so that n − 1 and n + 1 make the next f64, and 16n must differ from
-/// so many m by less than 8.
-const fn is_nearest_end(end: f64, sixteenths: u128) -> bool {
+/// Whether an end is the f64 nearest to k/16 of 2f. The end is n/2^53 and 2f is m/2^53; n has 53
+/// bits and is not 2^52, so the end's neighbours are (n − 1)/2^53 and (n + 1)/2^53, and
+/// |16n − km| < 8 says that it is the nearest.
+const fn is_nearest_end(end: f64, k: u128) -> bool {
     let n = (end * (1u64 << 53) as f64) as u128;
-    n >> 52 == 1 && (16 * n).abs_diff(sixteenths * QAM16_M as u128) < 8
+    1 << 52 < n && n < 1 << 53 && (16 * n).abs_diff(k * QAM16_M as u128) < 8
 }
 
 const _: () = assert!(is_nearest_end(QAM16_LOW_END, 15));
 const _: () = assert!(is_nearest_end(QAM16_HIGH_END, 17));
 
-/// Each last lost size before a decided one: f/8 of each modulation, then 16QAM's ends about 2f.
+/// The lost sizes beside a decided one: f/8 of each modulation, then 16QAM's ends about 2f.
 pub const LOST_EDGES: [f64; 5] = [
     BPSK_ERASURE,
     QPSK_ERASURE,
@@ -168,9 +166,9 @@ fn slice_two(x: f64, width: f64) -> u8 {
     }
 }
 
-/// Low and high bit of a 16QAM axis; both are 2 for a coordinate that is not finite, or of a size up
-/// to the erasure width, or of one from the low to the high end about 2f. Sizes are compared with
-/// the ends because at both the distance from 2f is above f/8 (D14).
+/// Low and high bit of a 16QAM axis. Both are 2 where the coordinate is not finite, or its size is
+/// at most the erasure width or from the low to the high end. Sizes are compared and not distances,
+/// since both ends are further from 2f than f/8 (D14).
 fn slice_four(x: f64) -> [u8; 2] {
     let high = slice_two(x, QAM16_ERASURE);
     let size = x.abs();
@@ -217,7 +215,7 @@ mod tests {
     }
 
     #[test]
-    fn edges_have_the_bits_of_d13_and_d14() {
+    fn edges_have_their_bits() {
         let bits = [
             0x3fc0_0000_0000_0000,
             0x3fb6_a09e_667f_3bcd,
@@ -229,11 +227,10 @@ mod tests {
     }
 
     #[test]
-    fn an_end_is_nearest_and_its_neighbours_are_not() {
-        for (end, sixteenths) in [(QAM16_LOW_END, 15), (QAM16_HIGH_END, 17)] {
-            assert!(is_nearest_end(end, sixteenths));
-            assert!(!is_nearest_end(end.next_down(), sixteenths));
-            assert!(!is_nearest_end(end.next_up(), sixteenths));
+    fn neighbours_of_an_end_are_not_nearest() {
+        for (end, k) in [(QAM16_LOW_END, 15), (QAM16_HIGH_END, 17)] {
+            assert!(!is_nearest_end(end.next_down(), k));
+            assert!(!is_nearest_end(end.next_up(), k));
         }
     }
 
@@ -266,7 +263,7 @@ mod tests {
     }
 
     #[test]
-    fn an_axis_is_lost_alone() {
+    fn each_axis_is_lost_by_itself() {
         let f = QAM16_FACTOR;
         let two = 2.0 * f;
         let (above, below) = (two.next_up(), two.next_down());
@@ -279,6 +276,7 @@ mod tests {
         let not_finite = [f64::NAN, f64::INFINITY, f64::NEG_INFINITY];
         for lost in [0.0, -0.0, least, -least].into_iter().chain(not_finite) {
             assert_eq!(sliced(QAM16, lost, f), [2, 2, 0, 1]);
+            assert_eq!(sliced(QAM16, f, lost), [0, 1, 2, 2]);
             assert_eq!(sliced(QPSK, 1.0, lost), [1, 2]);
             assert_eq!(sliced(BPSK, lost, 1.0), [2]);
             assert_eq!(sliced(BPSK, -1.0, lost), [0]);
@@ -317,9 +315,9 @@ mod tests {
     }
 
     /// An erasure width and the next size, with both signs, and the bit that each gives.
-    fn about_width(edge: f64) -> [(f64, u8); 4] {
-        let above = edge.next_up();
-        [(edge, 2), (-edge, 2), (above, 1), (-above, 0)]
+    fn about_width(width: f64) -> [(f64, u8); 4] {
+        let above = width.next_up();
+        [(width, 2), (-width, 2), (above, 1), (-above, 0)]
     }
 
     #[test]
@@ -340,11 +338,10 @@ mod tests {
     }
 
     #[test]
-    fn ends_are_lost_although_their_distance_is_above_an_eighth() {
+    fn ends_are_further_from_2f_than_an_eighth_of_f() {
         for end in [QAM16_LOW_END, QAM16_HIGH_END] {
             // The difference of numbers that are so near to each other is exact.
             assert!((end - QAM16_MIDDLE).abs() > QAM16_ERASURE);
-            assert_eq!(sliced(QAM16, end, -end), [2; 4]);
         }
     }
 

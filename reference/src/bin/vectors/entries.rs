@@ -225,7 +225,8 @@ impl Maker {
         }
     }
 
-    /// Every coordinate against every other, lost carriers, rooms and undefined modulations.
+    /// Every coordinate against every other, then other values of `heard`, rooms and undefined
+    /// modulations.
     fn slices(&mut self) {
         for (modulation, count) in modulations() {
             let (modulation, x) = (modulation as u8, coordinates());

@@ -215,8 +215,8 @@ const OF_3_CARRIERS: [Damage; 4] = [
 type Size = (&'static str, f64);
 
 /// The largest size that is lost about 0, and the next one.
-fn about_zero(edge: f64) -> Vec<Size> {
-    vec![("f/8", edge), ("just above f/8", edge.next_up())]
+fn about_zero(width: f64) -> Vec<Size> {
+    vec![("f/8", width), ("just above f/8", width.next_up())]
 }
 
 /// Both sides of 16QAM's ends about 2f.
@@ -531,7 +531,7 @@ impl Cases {
 #[cfg(test)]
 mod tests {
     use super::*;
-    use crate::record::{number_at, printed};
+    use crate::record::{printed, slice_bits};
     use crate::text::digits;
     use reference::cases::frame_controls;
     use std::collections::HashSet;
@@ -679,7 +679,7 @@ QPSK sliced, I at f, Q negative of size just above f/8: 3fe6a09e667f3bcd bfb6a09
 
     /// A slice's label, the bits of its coordinates, and its items.
     fn sliced(record: &Record) -> String {
-        let [i, q] = [2, 10].map(|at| number_at(&record.card, at));
+        let [i, q] = slice_bits(&record.card);
         let items = digits(&record.output);
         format!("{}: {i:016x} {q:016x} {items}", record.label)
     }

@@ -65,7 +65,7 @@ pub struct Record {
 }
 
 /// The number of 8 bytes that starts at a byte of a card.
-pub fn number_at(card: &[u8], at: usize) -> u64 {
+fn number_at(card: &[u8], at: usize) -> u64 {
     number_of(&card[at..at + 8])
 }
 
@@ -81,6 +81,11 @@ pub fn slice_card(modulation: u8, heard: u8, at: [f64; 2]) -> Vec<u8> {
     card
 }
 
+/// The bits of I and Q on a slice's card.
+pub fn slice_bits(card: &[u8]) -> [u64; 2] {
+    [2, 10].map(|at| number_at(card, at))
+}
+
 /// The call by the reference, on an output of zeros. Gives the report and the written bytes.
 fn answer(call: Call, card: &[u8], input: &[u8], room: usize) -> (Report, Vec<u8>) {
     let mut bytes = vec![0; room];
@@ -91,7 +96,7 @@ fn answer(call: Call, card: &[u8], input: &[u8], room: usize) -> (Report, Vec<u8
         Call::CardText => interface::card_text(card, &mut bytes),
         Call::Map => interface::map(card[0].into(), input, &mut words),
         Call::Slice => {
-            let [i, q] = [2, 10].map(|at| f64::from_bits(number_at(card, at)));
+            let [i, q] = slice_bits(card).map(f64::from_bits);
             interface::slice(card[0].into(), card[1].into(), i, q, &mut bytes)
         }
         Call::CardWrite => {
