@@ -1,8 +1,8 @@
 //! An independent second implementation of the bench tester's core.
 //!
-//! It is written from the papers alone: "01" in the comments is the paper with the exact rules, "02"
-//! the change requests "T-01", "T-02", .., "000" is Q/GDW 11612.41-2016, "004" its 2018 text, and
-//! "D1", "D2", .. are the entries of docs/DECISIONS.md.
+//! It is written from the papers alone: "01" in the comments is the paper with the exact rules,
+//! "02" the change requests "T-01", "T-02", .., "000" is Q/GDW 11612.41-2016, "004" its 2018 text,
+//! and "D1", "D2", .. are the entries of docs/DECISIONS.md.
 
 pub mod card;
 pub mod carriers;

@@ -66,38 +66,41 @@ pub const QPSK_FACTOR: f64 = QPSK_M as f64 / (1u64 << 53) as f64;
 /// 16QAM's factor, exact likewise.
 pub const QAM16_FACTOR: f64 = QAM16_M as f64 / (1u64 << 54) as f64;
 
-// A modulation's erasure width is f/8 by its own factor: the largest size that is lost about 0. It
-// is exact, since 8 is a power of 2.
-pub const BPSK_ERASURE: f64 = BPSK_FACTOR / 8.0;
-pub const QPSK_ERASURE: f64 = QPSK_FACTOR / 8.0;
-pub const QAM16_ERASURE: f64 = QAM16_FACTOR / 8.0;
-
-/// The middle between 16QAM's inner and outer levels, 2f; doubling is exact.
-const QAM16_MIDDLE: f64 = 2.0 * QAM16_FACTOR;
-/// The least size that is lost about 2f. f/8 and 2f are exact, so it is rounded once.
-pub const QAM16_LOW_END: f64 = QAM16_MIDDLE - QAM16_ERASURE;
-/// The largest such size, rounded once likewise.
-pub const QAM16_HIGH_END: f64 = QAM16_MIDDLE + QAM16_ERASURE;
-
-/// Whether an end is the f64 nearest to k/16 of 2f. The end is n/2^53 and 2f is m/2^53; n has 53
-/// bits and is not 2^52, so the end's neighbours are (n − 1)/2^53 and (n + 1)/2^53, and
-/// |16n − km| < 8 says that it is the nearest.
-const fn is_nearest_end(end: f64, k: u128) -> bool {
-    let n = (end * (1u64 << 53) as f64) as u128;
-    1 << 52 < n && n < 1 << 53 && (16 * n).abs_diff(k * QAM16_M as u128) < 8
-}
-
-const _: () = assert!(is_nearest_end(QAM16_LOW_END, 15));
-const _: () = assert!(is_nearest_end(QAM16_HIGH_END, 17));
-
-/// The lost sizes beside a decided one: f/8 of each modulation, then 16QAM's ends about 2f.
-pub const LOST_EDGES: [f64; 5] = [
-    BPSK_ERASURE,
-    QPSK_ERASURE,
-    QAM16_ERASURE,
+/// BPSK's f/8, the largest size that is lost about 0. An eighth of each factor is exact.
+pub const BPSK_EIGHTH: f64 = BPSK_FACTOR / 8.0;
+/// QPSK's f/8.
+pub const QPSK_EIGHTH: f64 = QPSK_FACTOR / 8.0;
+/// 16QAM's f/8.
+pub const QAM16_EIGHTH: f64 = QAM16_FACTOR / 8.0;
+/// The least size that is lost about 2f in 16QAM. 2f is exact, so only the difference is rounded.
+pub const QAM16_LOW_END: f64 = 2.0 * QAM16_FACTOR - QAM16_EIGHTH;
+/// The largest size that is lost about 2f in 16QAM, rounded once likewise.
+pub const QAM16_HIGH_END: f64 = 2.0 * QAM16_FACTOR + QAM16_EIGHTH;
+/// The sizes at which a finite coordinate turns between lost and decided.
+pub const EDGES: [f64; 5] = [
+    BPSK_EIGHTH,
+    QPSK_EIGHTH,
+    QAM16_EIGHTH,
     QAM16_LOW_END,
     QAM16_HIGH_END,
 ];
+
+/// x·2^57, which is whole for every x from 2^−5 to 1.
+const fn parts(x: f64) -> u64 {
+    (x * (1u64 << 57) as f64) as u64
+}
+
+/// Whether both neighbours of `end` are further from `exact` parts of 2^−57 than it is. Each is
+/// measured by itself, because the one below a power of 2 is only half as far away.
+const fn is_nearest_end(end: f64, exact: u64) -> bool {
+    let distance = parts(end).abs_diff(exact);
+    distance < parts(end.next_down()).abs_diff(exact)
+        && distance < parts(end.next_up()).abs_diff(exact)
+}
+
+// With f = m/2^54, 2f is 16m parts and f/8 is m.
+const _: () = assert!(is_nearest_end(QAM16_LOW_END, 15 * QAM16_M));
+const _: () = assert!(is_nearest_end(QAM16_HIGH_END, 17 * QAM16_M));
 
 /// Bits a carrier holds, or None for a modulation that is not defined (000, Table 14).
 pub const fn bits_per_carrier(modulation: u64) -> Option<usize> {
@@ -156,21 +159,19 @@ pub fn map(modulation: u64, bits: &[u8]) -> Result<Point, Report> {
     })
 }
 
-/// One bit by the sign; 2 for a coordinate that is not finite or whose size is at most the erasure
-/// width.
-fn slice_two(x: f64, width: f64) -> u8 {
-    if !x.is_finite() || x.abs() <= width {
+/// One bit by the sign; 2 for a coordinate that is at most f/8 in size or not finite.
+fn slice_two(x: f64, eighth: f64) -> u8 {
+    if x.abs() <= eighth || !x.is_finite() {
         2
     } else {
         u8::from(x > 0.0)
     }
 }
 
-/// Low and high bit of a 16QAM axis. Both are 2 where the coordinate is not finite, or its size is
-/// at most the erasure width or from the low to the high end. Sizes are compared and not distances,
-/// since both ends are further from 2f than f/8 (D14).
+/// Low and high bit of a 16QAM axis, both 2 where it is lost; so about 2f too, where the sign is
+/// plain. Sizes are held against the ends, since these lie further from 2f than f/8 (D14).
 fn slice_four(x: f64) -> [u8; 2] {
-    let high = slice_two(x, QAM16_ERASURE);
+    let high = slice_two(x, QAM16_EIGHTH);
     let size = x.abs();
     if high == 2 || (QAM16_LOW_END..=QAM16_HIGH_END).contains(&size) {
         [2, 2]
@@ -187,8 +188,8 @@ pub fn slice(modulation: u64, received: Received) -> Result<Items, Report> {
     Ok(match received {
         Received::Lost => Items::new(&[2; 4][..count]),
         Received::Heard(i, q) => match modulation {
-            BPSK => Items::new(&[slice_two(i, BPSK_ERASURE)]),
-            QPSK => Items::new(&[slice_two(i, QPSK_ERASURE), slice_two(q, QPSK_ERASURE)]),
+            BPSK => Items::new(&[slice_two(i, BPSK_EIGHTH)]),
+            QPSK => Items::new(&[slice_two(i, QPSK_EIGHTH), slice_two(q, QPSK_EIGHTH)]),
             _ => {
                 let ([d0, d1], [d2, d3]) = (slice_four(i), slice_four(q));
                 Items::new(&[d0, d1, d2, d3])
@@ -202,12 +203,6 @@ mod tests {
     use super::*;
     use crate::cases::all_bits;
 
-    /// The items of a carrier that was heard.
-    fn sliced(modulation: u64, i: f64, q: f64) -> Vec<u8> {
-        let items = slice(modulation, Received::Heard(i, q)).unwrap();
-        items.as_slice().to_vec()
-    }
-
     #[test]
     fn factors_have_the_bits_d13_prints() {
         assert_eq!(QPSK_FACTOR.to_bits(), 0x3fe6_a09e_667f_3bcd);
@@ -216,6 +211,14 @@ mod tests {
 
     #[test]
     fn edges_have_their_bits() {
+        let edges = [
+            BPSK_EIGHTH,
+            QPSK_EIGHTH,
+            QAM16_EIGHTH,
+            QAM16_LOW_END,
+            QAM16_HIGH_END,
+        ];
+        // An eighth has 3 less in the exponent than 1 and the factors of D13; the ends are D14's.
         let bits = [
             0x3fc0_0000_0000_0000,
             0x3fb6_a09e_667f_3bcd,
@@ -223,14 +226,19 @@ mod tests {
             0x3fe2_f942_2c23_c47e,
             0x3fe5_80e4_986c_cda0,
         ];
-        assert_eq!(LOST_EDGES.map(f64::to_bits), bits);
+        assert_eq!(edges.map(f64::to_bits), bits);
+        assert_eq!(EDGES.map(f64::to_bits), bits);
     }
 
     #[test]
-    fn neighbours_of_an_end_are_not_nearest() {
-        for (end, k) in [(QAM16_LOW_END, 15), (QAM16_HIGH_END, 17)] {
-            assert!(!is_nearest_end(end.next_down(), k));
-            assert!(!is_nearest_end(end.next_up(), k));
+    fn nearness_is_judged_by_both_neighbours() {
+        // Neighbours are 8 parts below 1/2, 16 above it and 16 to either side of 3/4; half of that
+        // is too far.
+        for (end, exact, below, above) in [(0.5, 1 << 56, 4, 8), (0.75, 3 << 55, 8, 8)] {
+            assert!(is_nearest_end(end, exact - below + 1));
+            assert!(!is_nearest_end(end, exact - below));
+            assert!(is_nearest_end(end, exact + above - 1));
+            assert!(!is_nearest_end(end, exact + above));
         }
     }
 
@@ -240,7 +248,8 @@ mod tests {
             let count = bits_per_carrier(modulation).unwrap();
             for bits in all_bits(count) {
                 let point = map(modulation, &bits).unwrap();
-                assert_eq!(sliced(modulation, point.i, point.q), bits);
+                let items = slice(modulation, Received::Heard(point.i, point.q)).unwrap();
+                assert_eq!(items.as_slice(), bits);
             }
         }
     }
@@ -263,85 +272,106 @@ mod tests {
     }
 
     #[test]
-    fn each_axis_is_lost_by_itself() {
+    fn an_axis_is_lost_alone() {
         let f = QAM16_FACTOR;
         let two = 2.0 * f;
-        let (above, below) = (two.next_up(), two.next_down());
-        assert_eq!(sliced(QAM16, two, f), [2, 2, 0, 1]);
-        assert_eq!(sliced(QAM16, -f, -two), [0, 0, 2, 2]);
-        assert_eq!(sliced(QAM16, above, below), [2; 4]);
-        assert_eq!(sliced(QAM16, -above, -below), [2; 4]);
+        let above = f64::from_bits(two.to_bits() + 1);
+        let below = f64::from_bits(two.to_bits() - 1);
+        let sliced = |i, q| {
+            slice(QAM16, Received::Heard(i, q))
+                .unwrap()
+                .as_slice()
+                .to_vec()
+        };
+        assert_eq!(sliced(two, f), [2, 2, 0, 1]);
+        assert_eq!(sliced(-f, -two), [0, 0, 2, 2]);
+        assert_eq!(sliced(above, below), [2, 2, 2, 2]);
+        assert_eq!(sliced(-above, -below), [2, 2, 2, 2]);
+        for lost in [0.0, -0.0, f64::NAN, f64::INFINITY, f64::NEG_INFINITY] {
+            assert_eq!(sliced(lost, f), [2, 2, 0, 1]);
+            assert_eq!(
+                slice(QPSK, Received::Heard(1.0, lost)).unwrap().as_slice(),
+                [1, 2]
+            );
+            assert_eq!(
+                slice(BPSK, Received::Heard(lost, 1.0)).unwrap().as_slice(),
+                [2]
+            );
+            assert_eq!(
+                slice(BPSK, Received::Heard(-1.0, lost)).unwrap().as_slice(),
+                [0]
+            );
+        }
         let least = f64::from_bits(1);
-        assert_eq!(sliced(QAM16, least, -least), [2; 4]);
-        let not_finite = [f64::NAN, f64::INFINITY, f64::NEG_INFINITY];
-        for lost in [0.0, -0.0, least, -least].into_iter().chain(not_finite) {
-            assert_eq!(sliced(QAM16, lost, f), [2, 2, 0, 1]);
-            assert_eq!(sliced(QAM16, f, lost), [0, 1, 2, 2]);
-            assert_eq!(sliced(QPSK, 1.0, lost), [1, 2]);
-            assert_eq!(sliced(BPSK, lost, 1.0), [2]);
-            assert_eq!(sliced(BPSK, -1.0, lost), [0]);
-        }
+        assert_eq!(sliced(least, -least), [2, 2, 2, 2]);
+        assert_eq!(sliced(f64::MAX, f64::MIN), [1, 1, 1, 0]);
+    }
+
+    /// The items of an axis, first for a positive coordinate, then for a negative one.
+    type BySign = [&'static [u8]; 2];
+    const LOST: BySign = [&[2], &[2]];
+    const SIGN: BySign = [&[1], &[0]];
+    const BOTH_LOST: BySign = [&[2, 2], &[2, 2]];
+    const INNER: BySign = [&[0, 1], &[0, 0]];
+    const OUTER: BySign = [&[1, 1], &[1, 0]];
+
+    /// The bits of sizes, and what they give in BPSK, QPSK and 16QAM.
+    const SIZES: [(u64, [BySign; 3]); 27] = [
+        (0, [LOST, LOST, BOTH_LOST]),
+        (1, [LOST, LOST, BOTH_LOST]),
+        // f/8 of 16QAM.
+        (0x3fa4_3d13_6248_490e, [LOST, LOST, BOTH_LOST]),
+        (0x3fa4_3d13_6248_490f, [LOST, LOST, BOTH_LOST]),
+        (0x3fa4_3d13_6248_4910, [LOST, LOST, INNER]),
+        // f/8 of QPSK.
+        (0x3fb6_a09e_667f_3bcc, [LOST, LOST, INNER]),
+        (0x3fb6_a09e_667f_3bcd, [LOST, LOST, INNER]),
+        (0x3fb6_a09e_667f_3bce, [LOST, SIGN, INNER]),
+        // f/8 of BPSK.
+        (0x3fbf_ffff_ffff_ffff, [LOST, SIGN, INNER]),
+        (0x3fc0_0000_0000_0000, [LOST, SIGN, INNER]),
+        (0x3fc0_0000_0000_0001, [SIGN, SIGN, INNER]),
+        // f of 16QAM.
+        (0x3fd4_3d13_6248_490f, [SIGN, SIGN, INNER]),
+        // The low end, 2f and the high end.
+        (0x3fe2_f942_2c23_c47d, [SIGN, SIGN, INNER]),
+        (0x3fe2_f942_2c23_c47e, [SIGN, SIGN, BOTH_LOST]),
+        (0x3fe2_f942_2c23_c47f, [SIGN, SIGN, BOTH_LOST]),
+        (0x3fe4_3d13_6248_490e, [SIGN, SIGN, BOTH_LOST]),
+        (0x3fe4_3d13_6248_490f, [SIGN, SIGN, BOTH_LOST]),
+        (0x3fe4_3d13_6248_4910, [SIGN, SIGN, BOTH_LOST]),
+        (0x3fe5_80e4_986c_cd9f, [SIGN, SIGN, BOTH_LOST]),
+        (0x3fe5_80e4_986c_cda0, [SIGN, SIGN, BOTH_LOST]),
+        (0x3fe5_80e4_986c_cda1, [SIGN, SIGN, OUTER]),
+        // 1, the largest finite number, infinity and NaNs.
+        (0x3ff0_0000_0000_0000, [SIGN, SIGN, OUTER]),
+        (0x7fef_ffff_ffff_ffff, [SIGN, SIGN, OUTER]),
+        (0x7ff0_0000_0000_0000, [LOST, LOST, BOTH_LOST]),
+        (0x7ff0_0000_0000_0001, [LOST, LOST, BOTH_LOST]),
+        (0x7ff8_0000_0000_0000, [LOST, LOST, BOTH_LOST]),
+        (0x7fff_ffff_ffff_ffff, [LOST, LOST, BOTH_LOST]),
+    ];
+
+    /// Every size with both signs, and its items in a modulation.
+    fn coordinates(modulation: u64) -> impl Iterator<Item = (f64, &'static [u8])> {
+        SIZES.iter().flat_map(move |&(bits, items)| {
+            let [plus, minus] = items[modulation as usize];
+            let negative = f64::from_bits(bits | 1 << 63);
+            [(f64::from_bits(bits), plus), (negative, minus)]
+        })
     }
 
     #[test]
-    fn the_largest_finite_numbers_are_decided() {
-        assert_eq!(sliced(QAM16, f64::MAX, f64::MIN), [1, 1, 1, 0]);
-        assert_eq!(sliced(QPSK, f64::MAX, f64::MIN), [1, 0]);
-        assert_eq!(sliced(BPSK, f64::MIN, f64::MAX), [0]);
-    }
-
-    #[test]
-    fn edges_of_16qam() {
-        const LOST: [[u8; 2]; 2] = [[2, 2], [2, 2]];
-        const INNER: [[u8; 2]; 2] = [[0, 1], [0, 0]];
-        const OUTER: [[u8; 2]; 2] = [[1, 1], [1, 0]];
-        for (size, [positive, negative]) in [
-            (0x3fa4_3d13_6248_490e, LOST),
-            (0x3fa4_3d13_6248_490f, LOST),
-            (0x3fa4_3d13_6248_4910, INNER),
-            (0x3fe2_f942_2c23_c47d, INNER),
-            (0x3fe2_f942_2c23_c47e, LOST),
-            (0x3fe2_f942_2c23_c47f, LOST),
-            (0x3fe5_80e4_986c_cd9f, LOST),
-            (0x3fe5_80e4_986c_cda0, LOST),
-            (0x3fe5_80e4_986c_cda1, OUTER),
-        ] {
-            let (f, size) = (QAM16_FACTOR, f64::from_bits(size));
-            for (x, axis) in [(size, positive), (-size, negative)] {
-                assert_eq!(sliced(QAM16, x, f), [axis, [0, 1]].concat());
-                assert_eq!(sliced(QAM16, f, x), [[0, 1], axis].concat());
+    fn each_axis_gives_its_items_whatever_the_other_is() {
+        for modulation in [BPSK, QPSK, QAM16] {
+            for (i, of_i) in coordinates(modulation) {
+                for (q, of_q) in coordinates(modulation) {
+                    let items = slice(modulation, Received::Heard(i, q)).unwrap();
+                    let of_q = if modulation == BPSK { &[] } else { of_q };
+                    let (right, at) = ([of_i, of_q].concat(), [i, q].map(f64::to_bits));
+                    assert_eq!(items.as_slice(), right, "{modulation} {at:x?}");
+                }
             }
-        }
-    }
-
-    /// An erasure width and the next size, with both signs, and the bit that each gives.
-    fn about_width(width: f64) -> [(f64, u8); 4] {
-        let above = width.next_up();
-        [(width, 2), (-width, 2), (above, 1), (-above, 0)]
-    }
-
-    #[test]
-    fn edges_of_qpsk() {
-        for (x, bit) in about_width(f64::from_bits(0x3fb6_a09e_667f_3bcd)) {
-            assert_eq!(sliced(QPSK, x, QPSK_FACTOR), [bit, 1]);
-            assert_eq!(sliced(QPSK, QPSK_FACTOR, x), [1, bit]);
-        }
-    }
-
-    #[test]
-    fn edges_of_bpsk_whatever_q_is() {
-        for (i, bit) in about_width(0.125) {
-            for q in [0.0, i, 1.0, -1.0, f64::MAX, f64::INFINITY, f64::NAN] {
-                assert_eq!(sliced(BPSK, i, q), [bit]);
-            }
-        }
-    }
-
-    #[test]
-    fn ends_are_further_from_2f_than_an_eighth_of_f() {
-        for end in [QAM16_LOW_END, QAM16_HIGH_END] {
-            // The difference of numbers that are so near to each other is exact.
-            assert!((end - QAM16_MIDDLE).abs() > QAM16_ERASURE);
         }
     }
 

@@ -2,7 +2,7 @@
 
 use reference::cases::{all_bits, Random};
 use reference::interface::COORDINATES;
-use reference::points::{bits_per_carrier, BPSK_ERASURE, LOST_EDGES, QAM16_FACTOR, QPSK_FACTOR};
+use reference::points::{bits_per_carrier, BPSK_EIGHTH, EDGES, QAM16_FACTOR, QPSK_FACTOR};
 
 use crate::cards::any_room;
 use crate::checker::Checker;
@@ -111,7 +111,7 @@ fn edges() -> Vec<u64> {
         f64::NAN,
     ];
     let mut edges = vec![0x7FF0_0000_0000_0001, i64::MAX as u64];
-    for bits in turning.into_iter().chain(LOST_EDGES).map(f64::to_bits) {
+    for bits in turning.into_iter().chain(EDGES).map(f64::to_bits) {
         edges.extend([bits.saturating_sub(1), bits, bits + 1]);
     }
     let negatives: Vec<u64> = edges.iter().map(|bits| bits ^ 1 << 63).collect();
@@ -121,7 +121,8 @@ fn edges() -> Vec<u64> {
     edges
 }
 
-/// Every edge against every other, then lost carriers, rooms and undefined modulations.
+/// Every edge against every other and in a lost carrier, then values of `heard` (D23), rooms and
+/// undefined modulations.
 pub fn slice_systematic(checker: &mut Checker) {
     let edges = edges();
     for modulation in 0..3 {
@@ -148,8 +149,7 @@ fn up_to(limit: f64, random: &mut Random) -> u64 {
     (limit * fraction).to_bits()
 }
 
-/// A coordinate's bits: an edge, a point some steps from one, one of the size of points or of the
-/// erasure widths, or anything.
+/// A coordinate's bits: an edge, some steps from one, of the size of points or of f/8, or anything.
 fn any_coordinate(random: &mut Random) -> u64 {
     match random.below(5) {
         0 => random.pick(&edges()),
@@ -158,10 +158,9 @@ fn any_coordinate(random: &mut Random) -> u64 {
             let steps = if random.once_in(2) { steps } else { -steps };
             random.pick(&edges()).wrapping_add_signed(steps)
         }
-        // Of the size of points.
         2 => up_to(4.0, random),
-        // Both sides of every f/8, of which BPSK's is the largest.
-        3 => up_to(2.0 * BPSK_ERASURE, random),
+        // BPSK's f/8 is the largest, so both sides of each are met.
+        3 => up_to(2.0 * BPSK_EIGHTH, random),
         _ => random.word(),
     }
 }

@@ -5,8 +5,8 @@ use reference::card::{pack, Fields, CARD_BYTES};
 use reference::cases::{modes, Mode, Random, Reception, EXAMPLE, MODULATION_NAMES};
 use reference::interface::{Entry, CARD_FIELDS};
 use reference::points::{
-    BPSK, BPSK_ERASURE, BPSK_FACTOR, QAM16, QAM16_ERASURE, QAM16_FACTOR, QAM16_HIGH_END,
-    QAM16_LOW_END, QPSK, QPSK_ERASURE, QPSK_FACTOR,
+    BPSK, BPSK_EIGHTH, BPSK_FACTOR, QAM16, QAM16_EIGHTH, QAM16_FACTOR, QAM16_HIGH_END,
+    QAM16_LOW_END, QPSK, QPSK_EIGHTH, QPSK_FACTOR,
 };
 
 use crate::record::{slice_card, Call, Record};
@@ -215,8 +215,8 @@ const OF_3_CARRIERS: [Damage; 4] = [
 type Size = (&'static str, f64);
 
 /// The largest size that is lost about 0, and the next one.
-fn about_zero(width: f64) -> Vec<Size> {
-    vec![("f/8", width), ("just above f/8", width.next_up())]
+fn about_zero(eighth: f64) -> Vec<Size> {
+    vec![("f/8", eighth), ("just above f/8", eighth.next_up())]
 }
 
 /// Both sides of 16QAM's ends about 2f.
@@ -510,14 +510,14 @@ impl Cases {
     /// Each axis about the edges of what is lost, the other one decided. BPSK does not look at Q,
     /// which is anything there.
     fn slices(&mut self) {
-        for (what, i) in both_signs(about_zero(BPSK_ERASURE)) {
+        for (what, i) in both_signs(about_zero(BPSK_EIGHTH)) {
             for (name, q) in [("0", 0.0), ("f", BPSK_FACTOR), ("NaN", f64::NAN)] {
                 self.slice(BPSK, [i, q], &format!("I {what}, Q at {name}"));
             }
         }
-        let of_16qam = [about_zero(QAM16_ERASURE), ENDS.to_vec()].concat();
+        let of_16qam = [about_zero(QAM16_EIGHTH), ENDS.to_vec()].concat();
         for (modulation, f, sizes) in [
-            (QPSK, QPSK_FACTOR, about_zero(QPSK_ERASURE)),
+            (QPSK, QPSK_FACTOR, about_zero(QPSK_EIGHTH)),
             (QAM16, QAM16_FACTOR, of_16qam),
         ] {
             for (what, x) in both_signs(sizes) {

@@ -3,7 +3,7 @@
 use std::io::{self, Write};
 
 use reference::cases::{all_bits, CODINGS, TAPS};
-use reference::points::{self, Received, LOST_EDGES, QAM16_FACTOR, QPSK_FACTOR};
+use reference::points::{self, Received, EDGES, QAM16_FACTOR, QPSK_FACTOR};
 use reference::scrambler::Scrambler;
 use reference::{interleaver, turbo};
 
@@ -82,7 +82,7 @@ pub fn coordinates() -> Vec<f64> {
         QPSK_FACTOR,
         -QPSK_FACTOR,
     ];
-    coordinates.extend(LOST_EDGES.into_iter().flat_map(about));
+    coordinates.extend(EDGES.into_iter().flat_map(about));
     coordinates
 }
 
