@@ -2,14 +2,14 @@
 use mathlib.Core.Path.{_≡_, refl, sym, ap, ap₂, _∙_}
 use mathlib.Core.List.{List}
 use Prim.Native.Nat.{ℕ, zero, suc, _+_, _-_, _*_, _/_, _%_, _^_, _≤_, _<_}
-use native.Mathlib.Nat.{add-zero, add-suc, add-assoc, mul-assoc, eq-or-lt-of-le, le-of-suc-le-suc, not-suc-le-zero, pow-suc}
+use native.Mathlib.Nat.{add-zero, zero-add, add-suc, add-assoc, mul-assoc, eq-or-lt-of-le, le-of-suc-le-suc, not-suc-le-zero, pow-suc}
 use mathlib.Core.Logic.{_⊎_, inl, inr}
 use native.Mathlib.Numerals.{add-one, one-add}
 use native.Mathlib.Omega.{arith}
 use lib.Arith.{bin-ind, digits-div, digits-mod}
 use lib.Bits.{bitXor, differ, xor-step, xor-self, xor-zero-l, xor-zero-r, xor-shr, xor-mod, xor-block}
 use lib.ListN.{length, getD}
-use lib.Pow.{shr-shr, mod-pow-add}
+use lib.Pow.{shr-shr, mod-pow-add, pow-mono, high, low}
 use Rattle.bits.specs.Lists.{written}
 use Rattle.bits.specs.Bits.{bitAt, bitOf, pack, byteOf, field, bytesOf}
 use Rattle.bits.proofs.ListLaws.{length-tabulate, getD-tabulate, getD-written, tabulate-of, tabulate-ext, written-ext}
@@ -200,3 +200,24 @@ field-byte bytes k h = byte-bits bytes k h
 pub field-lt : (bytes : List ℕ) (at n : ℕ) → field bytes at n < 2 ^ n
 unfolding field
 field-lt bytes at n = pack-lt n (λ j. bitOf bytes (at + j)) (λ j h. bit-binary bytes (at + j))
+
+-- a field of fewer than eight bytes leaves room for one more
+pub field-room : (bytes : List ℕ) (at k n : ℕ) → k < n → n ≤ 8 → field bytes at (8 * k) < 2 ^ 56
+field-room bytes at k n h l = omega (arith, field-lt bytes at (8 * k), pow-mono {i = 8 * k} {j = 56} (omega arith))
+
+-- one byte more
+pub field-next : (bytes : List ℕ) → ((i : ℕ) → getD bytes i 0 < 256) → (at k x : ℕ) → x ≡ field bytes (8 * at) (8 * k)
+    → x * 256 + getD bytes (at + k) 0 ≡ field bytes (8 * at) (8 * (k + 1))
+field-next bytes small at k x e =
+    let w : 8 * (k + 1) ≡ 8 * k + 8 = omega arith in
+    let a : 8 * at + 8 * k ≡ 8 * (at + k) = omega arith in
+    rw (w, field-append bytes (8 * at) (8 * k) 8, a, field-byte bytes (at + k) (small (at + k)), e)
+
+-- a field within a longer one
+pub field-within : (bytes : List ℕ) (at w rest : ℕ) → field bytes 0 (at + w + rest) / 2 ^ rest % 2 ^ w ≡ field bytes at w
+field-within bytes at w rest =
+    ap (λ (x : ℕ). x / 2 ^ rest % 2 ^ w) (field-append bytes 0 (at + w) rest)
+    ∙ ap (λ (x : ℕ). x % 2 ^ w) (high (field bytes 0 (at + w)) rest (field-lt bytes (0 + (at + w)) rest))
+    ∙ ap (λ (x : ℕ). x % 2 ^ w) (field-append bytes 0 at w)
+    ∙ low (field bytes 0 at) w (field-lt bytes (0 + at) w)
+    ∙ ap (λ (x : ℕ). field bytes x w) (zero-add at)

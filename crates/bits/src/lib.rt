@@ -9,7 +9,7 @@ ghost use lib.Bits.{bitXor};
 ghost use lib.Dec.{eqb};
 ghost use lib.ListN.{length, getD, drop};
 ghost use Rattle.bits.specs.Lists.{tabulate, written, firstAbove};
-ghost use Rattle.bits.specs.Bits.{bitAt, bitOf, byteOf};
+ghost use Rattle.bits.specs.Bits.{bitAt, bitOf, byteOf, field};
 ghost use Rattle.bits.specs.Sums.{count};
 ghost use Rattle.bits.specs.Loops.Words.{nibble, wordByte, stored};
 ghost use Rattle.bits.specs.Loops.Largest.{larger as largerOf, largest};
@@ -69,6 +69,20 @@ pub fn put(src: &[u8], out: &mut [u8])
         out[i] = src[i];
         i += 1;
     }
+}
+
+// The number in n bytes from `at` on, the highest byte first.
+pub fn number_at(bytes: &[u8], at: usize, n: usize) -> u64
+    requires { ⌜ (n ≤ 8) × (at + n ≤ length (now bytes)) ⌝ }
+    ensures { λ r. ⌜ r ≡ field (now (bytes .entry)) (8 * at) (8 * n) ⌝ }
+{
+    let mut number: u64 = 0;
+    let mut k: usize = 0;
+    while k < n {
+        number = number * 256 + bytes[at + k] as u64;
+        k += 1;
+    }
+    number
 }
 
 // The exclusive-or of each byte with what stands at its place in `out`.

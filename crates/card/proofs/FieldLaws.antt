@@ -15,14 +15,14 @@ use Rattle.card.specs.Entries.{cardRows, readCard, readFields}
 use Rattle.card.proofs.GateLaws.{card-read}
 
 abbrev room : List ℕ → List Row
-room fields = row (ltb (length fields) 8) (Room 8) ∷ []
+room fields = row (ltb (length fields) 10) (Room 10) ∷ []
 
 pub fields-refused : (bytes fields : List ℕ) (r : Refusal) → readCard bytes ≡ refusal r → readFields bytes fields ≡ record { report = refusal r; out = fields }
 unfolding readCard readFields
-fields-refused bytes fields r e = refused-outcome (cardRows bytes) (room fields) (cardOf bytes) r fields 8 (fieldsOf (cardOf bytes) ++ drop 8 fields) e
+fields-refused bytes fields r e = refused-outcome (cardRows bytes) (room fields) (cardOf bytes) r fields 10 (fieldsOf (cardOf bytes) ++ drop 10 fields) e
 
-pub fields-read : (bytes fields : List ℕ) (c : Card) → readCard bytes ≡ done c → readFields bytes fields ≡ outcomeBy (room fields) fields 8 (fieldsOf c ++ drop 8 fields)
+pub fields-read : (bytes fields : List ℕ) (c : Card) → readCard bytes ≡ done c → readFields bytes fields ≡ outcomeBy (room fields) fields 10 (fieldsOf c ++ drop 10 fields)
 unfolding readCard readFields
 fields-read bytes fields c e =
-    passed-outcome (cardRows bytes) (room fields) (cardOf bytes) c fields 8 (fieldsOf (cardOf bytes) ++ drop 8 fields) e
-    ∙ ap (λ d. outcomeBy (room fields) fields 8 (fieldsOf d ++ drop 8 fields)) (sym (card-read bytes c e))
+    passed-outcome (cardRows bytes) (room fields) (cardOf bytes) c fields 10 (fieldsOf (cardOf bytes) ++ drop 10 fields) e
+    ∙ ap (λ d. outcomeBy (room fields) fields 10 (fieldsOf d ++ drop 10 fields)) (sym (card-read bytes c e))

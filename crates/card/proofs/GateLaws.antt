@@ -4,25 +4,47 @@ use mathlib.Core.Bool.{true, false, not}
 use mathlib.Core.List.{List, [], _∷_, _++_}
 use Prim.Native.Nat.{ℕ, _<_, _^_}
 use lib.Dec.{leb}
-use borrow.Author.Tests.{leb-true, not-false}
+use lib.ListN.{length}
+use borrow.Author.Tests.{eqb-true, leb-true, not-false}
 use Rattle.bits.proofs.BitLaws.{field-lt}
-use Rattle.bits.proofs.BoolLaws.{both}
+use Rattle.bits.proofs.BoolLaws.{both, neither}
 use Rattle.refusal.specs.declared.Refusal.{Refusal}
 use Rattle.refusal.specs.declared.Refusal.the-variants.{Mode}
 use Rattle.refusal.specs.Report.{done, refusal}
 use Rattle.refusal.specs.Outcome.{Row, row, firstApplicable, rowOrder, inOrder, outcome}
-use Rattle.refusal.proofs.OutcomeLaws.{outcomeBy, done-same, reported-done, refused-report, passed-report, refused-outcome, passed-outcome}
+use Rattle.refusal.proofs.OutcomeLaws.{NoneApplies, outcomeBy, done-same, reported-done, refused-report, passed-report, refused-outcome, passed-outcome}
 use Rattle.card.specs.declared.Card.{Card}
-use Rattle.card.specs.Card.{cardOf}
+use Rattle.card.specs.Card.{cardBytes, cardOf}
 use Rattle.card.specs.Modes.{defined}
-use Rattle.card.specs.Entries.{cardRows, readCard}
+use Rattle.card.specs.Entries.{versioned, padded, cardRows, readCard}
 use Rattle.card.specs.Gate.{within, gateRows, gate, Served}
-use Rattle.card.proofs.ModeLaws.{defined-mode}
+use Rattle.card.proofs.ModeLaws.{defined-mode, defined-card}
 
 -- a card that is read is the one in the bytes
 pub card-read : (card : List ℕ) (c : Card) → readCard card ≡ done c → c ≡ cardOf card
 unfolding readCard
 card-read card c e = done-same (sym e ∙ reported-done (cardRows card) (cardOf card) c e .1)
+
+-- what the rows of a card that is read say of its bytes
+pub record Sound (bytes : List ℕ) : Type 0 where
+  pub versions : versioned (cardOf bytes) ≡ true
+  pub clear : padded bytes ≡ false
+  pub long : length bytes ≡ cardBytes (cardOf bytes .version)
+  pub mode : defined (cardOf bytes) ≡ true
+
+pub card-sound : (bytes : List ℕ) → NoneApplies (inOrder rowOrder (cardRows bytes)) → Sound bytes
+card-sound bytes (either, (version, (long, (mode, none)))) =
+    let (versions, clear) = neither (not (versioned (cardOf bytes))) (padded bytes) version in
+    record {
+      versions = not-false _ versions;
+      clear = clear;
+      long = eqb-true (length bytes) (cardBytes (cardOf bytes .version)) (not-false _ long);
+      mode = not-false _ mode;
+    }
+
+pub read-sound : (bytes : List ℕ) (c : Card) → readCard bytes ≡ done c → Sound bytes
+unfolding readCard
+read-sound bytes c e = card-sound bytes (reported-done (cardRows bytes) (cardOf bytes) c e .0)
 
 -- taps have eleven bits
 pub card-taps : (card : List ℕ) → cardOf card .taps < 2 ^ 11
@@ -60,10 +82,10 @@ module _ (first last : ℕ) (card : List ℕ) where
   unfolding gate
   gate-served c e =
       let d = cardOf card in
-      let (long, (version, (mode, (kind, none)))) = reported-done (gateRows first last card) d c e .0 in
+      let (either, (version, (long, (mode, (kind, none))))) = reported-done (gateRows first last card) d c e .0 in
       let is : defined d ≡ true = not-false (defined d) mode in
       let (low, high) = both (leb first (d .kind)) (leb (d .kind) last) (not-false (within first last d) kind) in
-      let (kinds, bands, modulations) = defined-mode (d .band) (d .kind) (d .rate) (d .modulation) is in
+      let (kinds, bands, modulations) = defined-mode (d .band) (d .kind) (d .rate) (d .modulation) (defined-card d is .0) in
       rw (gate-card c e)
       (record {
         mode = is;

@@ -1,12 +1,15 @@
 -- Laws of the defined modes: what the tests of a card say of its fields. Assumes nothing.
 use mathlib.Core.Path.{_≡_, refl}
 use mathlib.Core.Bool.{Bool, true, false, not, _&&_, _||_}
+use mathlib.Core.Logic.{_⊎_, inl, inr}
 use Prim.Native.Nat.{ℕ, _<_}
 use native.Mathlib.Omega.{arith}
 use lib.Dec.{eqb, leb}
 use borrow.Author.Tests.{eqb-true, leb-true}
 use Rattle.bits.proofs.BoolLaws.{both}
-use Rattle.card.specs.Modes.{definedMode, Defined}
+use Rattle.card.specs.declared.Card.{Card}
+use Rattle.card.specs.Modes.{definedMode, single, defined, Defined}
+use Rattle.card.specs.Entries.{isVersion}
 
 -- the defined kinds and rates
 pub defined-half : (kind : ℕ) → kind < 5 → Defined kind 0
@@ -15,8 +18,13 @@ defined-half kind h = record { kind-lt = h; rate-lt = omega arith; high-rate = �
 pub defined-high : Defined 4 1
 defined-high = record { kind-lt = omega arith; rate-lt = omega arith; high-rate = λ e. refl }
 
-pub versioned-is : (version spare : ℕ) → (eqb version 1 && eqb spare 0) ≡ true → (version ≡ 1) × (spare ≡ 0)
-versioned-is version spare e = let (v, s) = both (eqb version 1) (eqb spare 0) e in (eqb-true version 1 v, eqb-true spare 0 s)
+-- versions 1 and 2
+pub version-is : (version : ℕ) → isVersion version ≡ true → (version ≡ 1) ⊎ (version ≡ 2)
+version-is version e = go (eqb version 1) refl e
+  where
+    go : (b : Bool) → eqb version 1 ≡ b → (b || eqb version 2) ≡ true → (version ≡ 1) ⊎ (version ≡ 2)
+    go true is e = inl (eqb-true version 1 is)
+    go false is e = inr (eqb-true version 2 e)
 
 module _ (band kind rate modulation : ℕ) where
   rates : (b : Bool) → eqb rate 0 ≡ b → (b || eqb rate 1 && eqb kind 4) ≡ true → (rate < 2) × (rate ≡ 1 → kind ≡ 4)
@@ -39,3 +47,15 @@ module _ (band kind rate modulation : ℕ) where
         omega (arith, leb-true band 3 bands),
         omega (arith, leb-true modulation 2 modulations),
       )
+
+-- one block and one copy
+pub single-is : (c : Card) → single c ≡ true → (c .blocks ≡ 1) × (c .copies ≡ 1)
+single-is c e = let (blocks, copies) = both (eqb (c .blocks) 1) (eqb (c .copies) 1) e in (eqb-true (c .blocks) 1 blocks, eqb-true (c .copies) 1 copies)
+
+-- a card that is defined has a defined mode, and so far one block and one copy
+pub defined-card : (c : Card) → defined c ≡ true → (definedMode (c .band) (c .kind) (c .rate) (c .modulation) ≡ true) × (single c ≡ true)
+defined-card c e = both (definedMode (c .band) (c .kind) (c .rate) (c .modulation)) (single c) e
+
+-- of kind 0 it has one block and one copy, for good
+pub kind-0-single : (c : Card) → defined c ≡ true → c .kind ≡ 0 → single c ≡ true
+kind-0-single c e z = defined-card c e .1

@@ -1,26 +1,44 @@
--- The job card (paper 01's term): eight fields in eleven bytes, bit-packed, most significant first. Assumes nothing.
+-- The job card (paper 01's term): fields in eleven bytes (version 1) or twelve (version 2), bit-packed, most significant first. Assumes nothing.
+use mathlib.Core.Bool.{cond}
 use mathlib.Core.List.{List, [], _∷_}
 use Prim.Native.Nat.{ℕ, _+_, _-_, _*_, _^_}
-use lib.ListN.{getD}
+use lib.Dec.{eqb}
+use lib.ListN.{length, getD}
 use Rattle.bits.specs.Bits.{bitAt, bytesOf, field}
+use Rattle.bits.specs.Lists.{lowest}
 use Rattle.card.specs.declared.Card.{Card}
 
--- the bits of version, band, kind, rate, modulation, taps, spare and serial
-abbrev pub widths : List ℕ
-widths = 4 ∷ 2 ∷ 3 ∷ 1 ∷ 2 ∷ 11 ∷ 1 ∷ 64 ∷ []
+-- the bytes of a card by its version
+abbrev pub cardBytes : ℕ → ℕ
+cardBytes version = cond (eqb version 2) 12 11
 
--- the fields of some bytes, of the given widths, one behind the other from bit `at` on
+-- the bits of version, band, kind, rate, modulation, taps, spare, blocks less one, copy code, padding and serial, by a card's bytes.
+-- Eleven bytes have none for blocks, copies and padding, so these are 0 there: one block and one copy.
+abbrev pub widths : ℕ → List ℕ
+widths bytes = 4 ∷ 2 ∷ 3 ∷ 1 ∷ 2 ∷ 11 ∷ 1 ∷ cond (eqb bytes 12) (2 ∷ 3 ∷ 3 ∷ 64 ∷ []) (0 ∷ 0 ∷ 0 ∷ 64 ∷ [])
+
+-- the copy counts by their codes, and the code of a count; codes 6 and 7 have no count (0), and a number that is no count has no code (6)
+abbrev pub copyCounts : List ℕ
+copyCounts = 1 ∷ 2 ∷ 4 ∷ 5 ∷ 7 ∷ 11 ∷ []
+
+abbrev pub copyCount : ℕ → ℕ
+copyCount code = getD copyCounts code 0
+
+unfoldable pub copyCode : ℕ → ℕ
+copyCode copies = lowest 6 (λ code. eqb copies (copyCount code))
+
+-- the numbers in some bytes, of the given widths, one behind the other from bit `at` on
 abbrev pub fieldsFrom : List ℕ → ℕ → List ℕ → List ℕ
 fieldsFrom bytes at [] = []
 fieldsFrom bytes at (w ∷ ws) = field bytes at w ∷ fieldsFrom bytes (at + w) ws
 
--- the number whose bits are those of n, and then the fields', one behind the other
+-- the number whose bits are those of n, and then the given numbers', one behind the other
 abbrev pub packed : List ℕ → List ℕ → ℕ → ℕ
 packed [] vs n = n
 packed (w ∷ ws) [] n = n
 packed (w ∷ ws) (v ∷ vs) n = packed ws vs (n * 2 ^ w + v)
 
--- a card from its fields in order, and its fields in order
+-- a card from the numbers in its bytes, and those numbers of a card; padding is 0
 abbrev pub cardFrom : List ℕ → Card
 cardFrom vs =
     record {
@@ -31,15 +49,28 @@ cardFrom vs =
       modulation = getD vs 4 0;
       taps = getD vs 5 0;
       spare = getD vs 6 0;
-      serial = getD vs 7 0;
+      serial = getD vs 10 0;
+      blocks = getD vs 7 0 + 1;
+      copies = copyCount (getD vs 8 0);
     }
 
-abbrev pub fieldsOf : Card → List ℕ
-fieldsOf c = c .version ∷ c .band ∷ c .kind ∷ c .rate ∷ c .modulation ∷ c .taps ∷ c .spare ∷ c .serial ∷ []
+abbrev pub numbersOf : Card → List ℕ
+numbersOf c =
+    c .version ∷ c .band ∷ c .kind ∷ c .rate ∷ c .modulation ∷ c .taps ∷ c .spare ∷ (c .blocks - 1) ∷ copyCode (c .copies) ∷ 0 ∷ c .serial ∷ []
 
--- the card in eleven bytes, and the eleven bytes of a card
+-- the card in some bytes, twelve of them laid out as version 2 and any other number as version 1; and their padding
 unfoldable pub cardOf : List ℕ → Card
-cardOf bytes = cardFrom (fieldsFrom bytes 0 widths)
+cardOf bytes = cardFrom (fieldsFrom bytes 0 (widths (length bytes)))
 
+unfoldable pub paddingOf : List ℕ → ℕ
+paddingOf bytes = getD (fieldsFrom bytes 0 (widths (length bytes))) 9 0
+
+-- the bytes of a card, as many as its version has
 unfoldable pub bytesOfCard : Card → List ℕ
-bytesOfCard c = bytesOf 11 (λ i. bitAt (87 - i) (packed widths (fieldsOf c) 0))
+bytesOfCard c =
+    bytesOf (cardBytes (c .version)) (λ i. bitAt (8 * cardBytes (c .version) - 1 - i) (packed (widths (cardBytes (c .version))) (numbersOf c) 0))
+
+-- a card's ten fields in order
+abbrev pub fieldsOf : Card → List ℕ
+fieldsOf c =
+    c .version ∷ c .band ∷ c .kind ∷ c .rate ∷ c .modulation ∷ c .taps ∷ c .spare ∷ c .serial ∷ c .blocks ∷ c .copies ∷ []

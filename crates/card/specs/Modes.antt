@@ -20,8 +20,13 @@ unfoldable pub definedMode : ℕ → ℕ → ℕ → ℕ → Bool
 definedMode band kind rate modulation =
     leb band 3 && leb kind 4 && leb modulation 2 && (eqb rate 0 || eqb rate 1 && eqb kind 4) && (not (eqb kind 0) || eqb modulation 1)
 
+-- one block and one copy
+abbrev pub single : Card → Bool
+single c = eqb (c .blocks) 1 && eqb (c .copies) 1
+
+-- a card's mode is defined, with one block and one copy: more are defined by T-06 and T-07, but never for kind 0
 abbrev pub defined : Card → Bool
-defined c = definedMode (c .band) (c .kind) (c .rate) (c .modulation)
+defined c = definedMode (c .band) (c .kind) (c .rate) (c .modulation) && single c
 
 -- the kinds and rates that are defined: kinds 0 to 4 at rate 0 (1/2), and kind 4 alone at rate 1 (16/18)
 pub record Defined (kind rate : ℕ) : Type 0 where

@@ -1,26 +1,31 @@
-// The job card (paper 01's term): eleven bytes that say which band, block, rate, modulation and taps a job uses.
+// The job card (paper 01's term): eleven or twelve bytes that say which band, block, rate, modulation and taps a job uses, and in
+// version 2 how many blocks and copies.
 //
-//   version 4 bits (1) | band 2 | kind 3 | rate 1 | modulation 2 | taps 11 | spare 1 (0) | serial 64
+//   version 4 bits | band 2 | kind 3 | rate 1 | modulation 2 | taps 11 | spare 1 (0) |
+//   in version 2: blocks less one 2 | copy code 3 | padding 3 (0) |
+//   serial 64
 //
-// Public entries: `read_card`, `read_fields` and `write_card`. Everything else that is `pub` is internal.
+// Public entries: `read_card` and `read_fields`. Everything else that is `pub` is internal.
 use refusal::Answer;
 use refusal::Refusal;
 ghost use mathlib.Core.Path.{_≡_};
 ghost use mathlib.Core.List.{_++_};
-ghost use mathlib.Core.Bool.{_&&_, _||_, not};
-ghost use Prim.Native.Nat.{_*_, _/_, _%_, _^_, _-_, _<_, _≤_};
-ghost use lib.Dec.{eqb, ltb};
+ghost use mathlib.Core.Bool.{true, _&&_, _||_, not};
+ghost use Prim.Native.Nat.{_<_, _≤_};
+ghost use lib.Dec.{eqb};
 ghost use lib.ListN.{length, drop};
-ghost use Rattle.bits.specs.Bits.{field};
 ghost use Rattle.refusal.specs.Report.{answer};
-ghost use Rattle.card.specs.Modes.{blockBytes, carrierBits, definedMode};
-ghost use Rattle.card.specs.Card.{cardOf, bytesOfCard, fieldsOf};
-ghost use Rattle.card.specs.Entries.{cardRead, readCard, readFields, writeCard};
+ghost use Rattle.card.specs.Modes.{blockBytes, carrierBits, definedMode, defined};
+ghost use Rattle.card.specs.Card.{cardBytes, copyCount, copyCode, cardOf, paddingOf, fieldsOf};
+ghost use Rattle.card.specs.Entries.{isVersion, cardRead, readCard, readFields};
 ghost use Rattle.card.specs.Gate.{gate};
-ghost use Rattle.card.specs.Loops.Fields.{Fitting};
+ghost use Rattle.card.specs.Loops.Heads.{headOf};
 
 // By kind: the bytes of a block.
 const BLOCK_BYTES: [usize; 5] = [16, 72, 136, 264, 520];
+
+// By code: the copies of a payload.
+const COPY_COUNTS: [u64; 8] = [1, 2, 4, 5, 7, 11, 0, 0];
 
 // By modulation: the bits on a carrier.
 const CARRIER_BITS: [usize; 3] = [1, 2, 4];
@@ -35,6 +40,8 @@ pub struct Card {
     pub taps: u64,
     pub spare: u64,
     pub serial: u64,
+    pub blocks: u64,
+    pub copies: u64,
 }
 
 // What reading a card answers.
@@ -59,38 +66,65 @@ pub fn carrier_bits(modulation: usize) -> usize
     CARRIER_BITS[modulation]
 }
 
-// The serial: the last eight bytes, most significant first.
-fn serial_of(card: &[u8]) -> u64
-    requires { ⌜ length (now card) ≡ 11 ⌝ }
-    ensures { λ r. ⌜ r ≡ field (now (card .entry)) 24 64 ⌝ }
+// The copies of a code; 0 where it has none.
+fn copy_count(code: u64) -> u64
+    requires { ⌜ code < 8 ⌝ }
+    ensures { λ r. ⌜ r ≡ copyCount code ⌝ }
 {
-    let mut serial: u64 = 0;
-    let mut i: usize = 0;
-    while i < 8 {
-        serial = serial * 256 + card[3 + i] as u64;
-        i += 1;
-    }
-    serial
+    COPY_COUNTS[code as usize]
 }
 
-// The fields in eleven bytes.
+// The code of a count of copies; 6, which no copies have, where it has none.
+pub fn copy_code(copies: u64) -> u64
+    ensures { λ r. ⌜ r ≡ copyCode copies ⌝ }
+{
+    match copies {
+        1 => 0,
+        2 => 1,
+        4 => 2,
+        5 => 3,
+        7 => 4,
+        11 => 5,
+        _ => 6,
+    }
+}
+
+// The bytes of a card of some version.
+pub fn card_bytes(version: u64) -> usize
+    ensures { λ r. ⌜ r ≡ cardBytes version ⌝ }
+{
+    if version == 2 { 12 } else { 11 }
+}
+
+// What stands before the serial, as the four bytes of version 2; in eleven bytes the fourth is missing and counts as 0.
+fn head_of(card: &[u8]) -> u64
+    requires { ⌜ 11 ≤ length (now card) ⌝ }
+    ensures { λ r. ⌜ r ≡ headOf (now (card .entry)) ⌝ }
+{
+    if card.len() == 12 {
+        return bits::number_at(card, 0, 4);
+    }
+    bits::number_at(card, 0, 3) * 256
+}
+
+// The fields in eleven or twelve bytes.
 fn unpack(card: &[u8]) -> Card
-    requires { ⌜ length (now card) ≡ 11 ⌝ }
+    requires { ⌜ (eqb (length (now card)) 11 || eqb (length (now card)) 12) ≡ true ⌝ }
     ensures { λ r. ⌜ r ≡ cardOf (now (card .entry)) ⌝ }
 {
-    let a = card[0] as u64;
-    let b = card[1] as u64;
-    let c = card[2] as u64;
-    let serial = serial_of(card);
+    let head = head_of(card);
+    let serial = bits::number_at(card, card.len() - 8, 8);
     Card {
-        version: a / 16,
-        band: a / 4 % 4,
-        kind: a % 4 * 2 + b / 128,
-        rate: b / 64 % 2,
-        modulation: b / 16 % 4,
-        taps: b % 16 * 128 + c / 2,
-        spare: c % 2,
+        version: (head >> 28) % 16,
+        band: (head >> 26) % 4,
+        kind: (head >> 23) % 8,
+        rate: (head >> 22) % 2,
+        modulation: (head >> 20) % 4,
+        taps: (head >> 9) % 2048,
+        spare: (head >> 8) % 2,
         serial,
+        blocks: (head >> 6) % 4 + 1,
+        copies: copy_count((head >> 3) % 8),
     }
 }
 
@@ -118,7 +152,7 @@ fn modulation_serves(kind: u64, modulation: u64) -> bool
 }
 
 // Whether a mode is defined.
-fn is_defined(band: u64, kind: u64, rate: u64, modulation: u64) -> bool
+fn is_defined_mode(band: u64, kind: u64, rate: u64, modulation: u64) -> bool
     ensures { λ r. ⌜ r ≡ definedMode band kind rate modulation ⌝ }
 {
     if 3 < band {
@@ -136,34 +170,93 @@ fn is_defined(band: u64, kind: u64, rate: u64, modulation: u64) -> bool
     false
 }
 
-// Version 1, and nothing in the spare bit.
-fn is_versioned(version: u64, spare: u64) -> bool
-    ensures { λ r. ⌜ r ≡ (eqb version 1 && eqb spare 0) ⌝ }
+// One block and one copy.
+pub fn is_single(blocks: u64, copies: u64) -> bool
+    ensures { λ r. ⌜ r ≡ (eqb blocks 1 && eqb copies 1) ⌝ }
 {
-    if version != 1 {
+    if blocks != 1 {
         return false;
     }
-    spare == 0
+    copies == 1
 }
 
-// The card in some bytes, or refusal 1, 2 or 3.
+// Whether a card's mode and its counts are defined.
+pub fn is_defined(c: Card) -> bool
+    ensures { λ r. ⌜ r ≡ defined c ⌝ }
+{
+    if is_defined_mode(c.band, c.kind, c.rate, c.modulation) {
+        return is_single(c.blocks, c.copies);
+    }
+    false
+}
+
+// Whether there is such a version.
+pub fn is_version(version: u64) -> bool
+    ensures { λ r. ⌜ r ≡ isVersion version ⌝ }
+{
+    if version == 1 {
+        return true;
+    }
+    version == 2
+}
+
+// A version that there is, and nothing in the spare bit.
+pub fn is_versioned(version: u64, spare: u64) -> bool
+    ensures { λ r. ⌜ r ≡ (isVersion version && eqb spare 0) ⌝ }
+{
+    if is_version(version) {
+        return spare == 0;
+    }
+    false
+}
+
+// Whether twelve bytes of version 2 have something in the padding.
+fn is_padded(card: &[u8], version: u64) -> bool
+    ensures { λ r. ⌜ r ≡ (eqb (length (now (card .entry))) 12 && eqb version 2 && not (eqb (paddingOf (now (card .entry))) 0)) ⌝ }
+{
+    if card.len() != 12 {
+        return false;
+    }
+    if version != 2 {
+        return false;
+    }
+    card[3] % 8 != 0
+}
+
+// Whether a card of some version has so many bytes.
+pub fn is_length(n: usize) -> bool
+    ensures { λ r. ⌜ r ≡ (eqb n 11 || eqb n 12) ⌝ }
+{
+    if n == 11 {
+        return true;
+    }
+    n == 12
+}
+
+// The card in some bytes, or refusal 1, 2, 10 or 3.
 pub fn read_card(card: &[u8]) -> CardRead
     ensures { λ r. ⌜ cardRead r ≡ readCard (now (card .entry)) ⌝ }
 {
-    if card.len() != 11 {
+    if !is_length(card.len()) {
         return CardRead::Refused(Refusal::CardLength(card.len()));
     }
     let c = unpack(card);
     if !is_versioned(c.version, c.spare) {
         return CardRead::Refused(Refusal::Version);
     }
-    if !is_defined(c.band, c.kind, c.rate, c.modulation) {
+    if is_padded(card, c.version) {
+        return CardRead::Refused(Refusal::Version);
+    }
+    if card.len() != card_bytes(c.version) {
+        return CardRead::Refused(Refusal::VersionLength);
+    }
+    if !is_defined(c) {
         return CardRead::Refused(Refusal::Mode);
     }
     CardRead::Good(c)
 }
 
-// The gate of the entries above: the card in some bytes, where its kind is one from `first` to `last`, or refusal 1, 2 or 3.
+// The gate of the entries above: the card in some bytes, where its kind is one from `first` to `last`, or refusal 1, 2, 10 or 3.
 pub fn served_card(card: &[u8], first: u64, last: u64) -> CardRead
     ensures { λ r. ⌜ cardRead r ≡ gate first last (now (card .entry)) ⌝ }
 {
@@ -181,68 +274,10 @@ pub fn served_card(card: &[u8], first: u64, last: u64) -> CardRead
     }
 }
 
-// Whether a mode is defined and its taps fit eleven bits.
-fn is_writable(band: u64, kind: u64, rate: u64, modulation: u64, taps: u64) -> bool
-    ensures { λ r. ⌜ r ≡ (definedMode band kind rate modulation && ltb taps (2 ^ 11)) ⌝ }
-{
-    if is_defined(band, kind, rate, modulation) {
-        return taps < 2048;
-    }
-    false
-}
-
-// Byte i of the serial, most significant first.
-fn serial_byte(serial: u64, i: usize) -> u8
-    requires { ⌜ i < 8 ⌝ }
-    ensures { λ r. ⌜ r ≡ serial / 2 ^ (56 - 8 * i) % 256 ⌝ }
-{
-    ((serial >> (56 - 8 * i)) % 256) as u8
-}
-
-// The eleven bytes of fields that fit.
-fn pack_card(c: Card) -> [u8; 11]
-    requires { ⌜ Fitting c ⌝ }
-    ensures { λ r. ⌜ r ≡ bytesOfCard c ⌝ }
-{
-    let s = c.serial;
-    [
-        (c.version * 16 + c.band * 4 + c.kind / 2) as u8,
-        (c.kind % 2 * 128 + c.rate * 64 + c.modulation * 16 + c.taps / 128) as u8,
-        (c.taps % 128 * 2 + c.spare) as u8,
-        serial_byte(s, 0),
-        serial_byte(s, 1),
-        serial_byte(s, 2),
-        serial_byte(s, 3),
-        serial_byte(s, 4),
-        serial_byte(s, 5),
-        serial_byte(s, 6),
-        serial_byte(s, 7),
-    ]
-}
-
-// The fields as eleven bytes at the start of `out`, or refusal 2, 3 or 5.
-pub fn write_card(c: Card, out: &mut [u8]) -> Answer
-    ensures answer { λ r. ⌜ answer r ≡ writeCard c (now (out .entry)) .report ⌝ }
-    ensures bytes { λ _. ⌜ now (out .exit) ≡ writeCard c (now (out .entry)) .out ⌝ }
-{
-    if !is_versioned(c.version, c.spare) {
-        return Answer::Refused(Refusal::Version);
-    }
-    if !is_writable(c.band, c.kind, c.rate, c.modulation, c.taps) {
-        return Answer::Refused(Refusal::Mode);
-    }
-    if out.len() < 11 {
-        return Answer::Refused(Refusal::Room(11));
-    }
-    let bytes = pack_card(c);
-    bits::put(&bytes, out);
-    Answer::Done(11)
-}
-
-// The eight fields in order at the start of `fields`.
+// The ten fields in order at the start of `fields`.
 fn put_fields(c: Card, fields: &mut [u64])
-    requires { ⌜ 8 ≤ length (now fields) ⌝ }
-    ensures { λ _. ⌜ now (fields .exit) ≡ fieldsOf c ++ drop 8 (now (fields .entry)) ⌝ }
+    requires { ⌜ 10 ≤ length (now fields) ⌝ }
+    ensures { λ _. ⌜ now (fields .exit) ≡ fieldsOf c ++ drop 10 (now (fields .entry)) ⌝ }
 {
     fields[0] = c.version;
     fields[1] = c.band;
@@ -252,9 +287,11 @@ fn put_fields(c: Card, fields: &mut [u64])
     fields[5] = c.taps;
     fields[6] = c.spare;
     fields[7] = c.serial;
+    fields[8] = c.blocks;
+    fields[9] = c.copies;
 }
 
-// The fields of the card in some bytes at the start of `fields`, or refusal 1, 2, 3 or 5.
+// The fields of the card in some bytes at the start of `fields`, or refusal 1, 2, 10, 3 or 5.
 pub fn read_fields(card: &[u8], fields: &mut [u64]) -> Answer
     ensures answer { λ r. ⌜ answer r ≡ readFields (now (card .entry)) (now (fields .entry)) .report ⌝ }
     ensures fields { λ _. ⌜ now (fields .exit) ≡ readFields (now (card .entry)) (now (fields .entry)) .out ⌝ }
@@ -262,11 +299,11 @@ pub fn read_fields(card: &[u8], fields: &mut [u64]) -> Answer
     match read_card(card) {
         CardRead::Refused(r) => Answer::Refused(r),
         CardRead::Good(c) => {
-            if fields.len() < 8 {
-                return Answer::Refused(Refusal::Room(8));
+            if fields.len() < 10 {
+                return Answer::Refused(Refusal::Room(10));
             }
             put_fields(c, fields);
-            Answer::Done(8)
+            Answer::Done(10)
         }
     }
 }

@@ -8,7 +8,7 @@ use native.Mathlib.Omega.{arith}
 use lib.Dec.{eqb}
 use lib.ListN.{length}
 use Rattle.refusal.specs.declared.Refusal.{Refusal}
-use Rattle.refusal.specs.declared.Refusal.the-variants.{CardLength, Version, Mode, Pad, Length, Room, Item, Majority, Parity}
+use Rattle.refusal.specs.declared.Refusal.the-variants.{CardLength, Version, VersionLength, Mode, Pad, Length, Room, Item, Majority, Parity, Counts}
 use Rattle.refusal.specs.Report.{Report, done, refused, refusal, number}
 use Rattle.refusal.specs.Outcome.{Row, Outcome, firstApplicable, inOrder, rowOrder, reported, outcome}
 
@@ -45,12 +45,14 @@ back (done a) = []
 back (refused n v w) =
     cond (eqb n 1) (CardLength v)
     (cond (eqb n 2) Version
+    (cond (eqb n 10) VersionLength
     (cond (eqb n 9) (Pad v)
     (cond (eqb n 4) (Length v)
     (cond (eqb n 5) (Room v)
     (cond (eqb n 6) (Item v)
     (cond (eqb n 7) (Majority v)
-    (cond (eqb n 8) (Parity v) Mode)))))))
+    (cond (eqb n 8) (Parity v)
+    (cond (eqb n 11) Counts Mode)))))))))
     ∷ []
 
 -- a refusal's report is its number with one value, and no other refusal has it
@@ -58,6 +60,7 @@ reported-as : (A : Type 0) (r : Refusal) → (v : ℕ) × (refusal {A = A} r ≡
 unfolding back
 reported-as A (CardLength n) = (n, refl, refl)
 reported-as A Version = (0, refl, refl)
+reported-as A VersionLength = (0, refl, refl)
 reported-as A Mode = (0, refl, refl)
 reported-as A (Pad n) = (n, refl, refl)
 reported-as A (Length n) = (n, refl, refl)
@@ -65,6 +68,7 @@ reported-as A (Room n) = (n, refl, refl)
 reported-as A (Item n) = (n, refl, refl)
 reported-as A (Majority n) = (n, refl, refl)
 reported-as A (Parity n) = (n, refl, refl)
+reported-as A Counts = (0, refl, refl)
 
 -- what is made of any report is made of a refusal's by its number and a value
 pub refused-as : {A X : Type 0} (f : Report A → X) (r : Refusal) → (v : ℕ) × (f (refusal r) ≡ f (refused (number (refusal {A = ℕ} r)) v 0))

@@ -2,7 +2,7 @@
 use mathlib.Core.List.{List, [], _∷_}
 use Prim.Native.Nat.{ℕ}
 use Rattle.refusal.specs.declared.Refusal.{Refusal}
-use Rattle.refusal.specs.declared.Refusal.the-variants.{CardLength, Version, Mode, Pad, Length, Room, Item, Majority, Parity}
+use Rattle.refusal.specs.declared.Refusal.the-variants.{CardLength, Version, VersionLength, Mode, Pad, Length, Room, Item, Majority, Parity, Counts}
 use Rattle.refusal.specs.declared.Answer.{Answer}
 use Rattle.refusal.specs.declared.Answer.the-variants.{Done, Refused}
 
@@ -15,6 +15,7 @@ pub data Report (A : Type 0) : Type 0 where
 abbrev pub refusal : {A : Type 0} → Refusal → Report A
 refusal (CardLength n) = refused 1 n 0
 refusal Version = refused 2 0 0
+refusal VersionLength = refused 10 0 0
 refusal Mode = refused 3 0 0
 refusal (Pad n) = refused 9 n 0
 refusal (Length n) = refused 4 n 0
@@ -22,6 +23,7 @@ refusal (Room n) = refused 5 n 0
 refusal (Item n) = refused 6 n 0
 refusal (Majority n) = refused 7 n 0
 refusal (Parity n) = refused 8 n 0
+refusal Counts = refused 11 0 0
 
 -- the report of each case of an answer
 abbrev pub answer : Answer → Report ℕ

@@ -9,10 +9,12 @@ ghost use Rattle.refusal.specs.Report.{refusal, answer, number, values};
 
 // A case for each number of the table, in its order.
 pub enum Refusal {
-    // 1: the card is not 11 bytes; its length
+    // 1: the card is neither 11 nor 12 bytes; its length
     CardLength(usize),
-    // 2: version is not 1, or spare is not 0
+    // 2: the version is neither 1 nor 2, spare is not 0, or padding is not 0 on twelve bytes of version 2
     Version,
+    // 10: version and length disagree
+    VersionLength,
     // 3: the mode is not defined, or not served by the entry
     Mode,
     // 9: the pad is longer than the coded data; the pad
@@ -27,6 +29,8 @@ pub enum Refusal {
     Majority(usize),
     // 8: parity disagrees; the count of kept parity bits that disagree
     Parity(usize),
+    // 11: version 1 cannot say the block count and the copy count
+    Counts,
 }
 
 // What an entry answers that writes into a lent buffer: how many elements it wrote, or why it wrote none.
@@ -42,6 +46,7 @@ pub fn number_of(r: Refusal) -> u32
     match r {
         Refusal::CardLength(_) => 1,
         Refusal::Version => 2,
+        Refusal::VersionLength => 10,
         Refusal::Mode => 3,
         Refusal::Pad(_) => 9,
         Refusal::Length(_) => 4,
@@ -49,6 +54,7 @@ pub fn number_of(r: Refusal) -> u32
         Refusal::Item(_) => 6,
         Refusal::Majority(_) => 7,
         Refusal::Parity(_) => 8,
+        Refusal::Counts => 11,
     }
 }
 
@@ -59,6 +65,7 @@ fn value_of(r: Refusal) -> usize
     match r {
         Refusal::CardLength(n) => n,
         Refusal::Version => 0,
+        Refusal::VersionLength => 0,
         Refusal::Mode => 0,
         Refusal::Pad(n) => n,
         Refusal::Length(n) => n,
@@ -66,6 +73,7 @@ fn value_of(r: Refusal) -> usize
         Refusal::Item(n) => n,
         Refusal::Majority(n) => n,
         Refusal::Parity(n) => n,
+        Refusal::Counts => 0,
     }
 }
 

@@ -1,55 +1,21 @@
 -- `card::is_defined` meets its contract. Assumes nothing.
 use mathlib.Core.Path.{sym, _∙_}
-use borrow.Author.Tests.{le-leb, lt-leb}
-use Rattle.card.specs.Modes.{definedMode}
 use borrow.Author.Needs.{needs}
 use Rattle.card.proofs.is_defined.Statement.{statement}
 use Rattle.card.proofs.is_defined.Tie as tie
 
+is-defined-mode-requires : tie.Need-is-defined-mode-requires
+is-defined-mode-requires c κs = search needs
+
+is-single-requires : tie.Need-is-single-requires
+is-single-requires c κs = search needs
+
 returns : tie.Need-returns
-unfolding definedMode
-returns c = simp (lt-leb _ 3 (c .if1 .taken))
+returns c = simp (sym (c .before .before .is-defined-mode .ensures) ∙ c .before .if1 .taken) (c .is-single .ensures)
 
 returns-2 : tie.Need-returns-2
-unfolding definedMode
-returns-2 c = simp (le-leb _ _ (c .before .if1 .left), lt-leb _ _ (c .if2 .taken))
-
-returns-3 : tie.Need-returns-3
-unfolding definedMode
-returns-3 c = simp (le-leb _ _ (c .before .before .if1 .left), le-leb _ _ (c .before .if2 .left), lt-leb _ _ (c .if3 .taken))
-
-rate-serves-requires : tie.Need-rate-serves-requires
-rate-serves-requires c κs = search needs
-
-modulation-serves-requires : tie.Need-modulation-serves-requires
-modulation-serves-requires c κs = search needs
-
-returns-4 : tie.Need-returns-4
-unfolding definedMode
-returns-4 c =
-    let at = c .before .before .before in
-    let one = le-leb _ _ (at .before .before .if1 .left) in
-    let two = le-leb _ _ (at .before .if2 .left) in
-    let three = le-leb _ _ (at .if3 .left) in
-    simp (one, two, three, sym (c .before .before .rate-serves .ensures) ∙ c .before .if4 .taken) (c .modulation-serves .ensures)
-
-returns-5 : tie.Need-returns-5
-unfolding definedMode
-returns-5 c =
-    let at = c .before .before in
-    let one = le-leb _ _ (at .before .before .if1 .left) in
-    let two = le-leb _ _ (at .before .if2 .left) in
-    let three = le-leb _ _ (at .if3 .left) in
-    simp (one, two, three, sym (c .before .rate-serves .ensures) ∙ c .if4 .left)
+returns-2 c = simp (sym (c .before .is-defined-mode .ensures) ∙ c .if1 .left)
 
 pub is-defined-spec : {M : Type 1} → statement M
 is-defined-spec =
-    tie.close
-    (tie.spec
-    returns
-    returns-2
-    returns-3
-    rate-serves-requires
-    modulation-serves-requires
-    returns-4
-    returns-5)
+    tie.close (tie.spec is-defined-mode-requires is-single-requires returns returns-2)

@@ -1,4 +1,4 @@
--- `card::put_fields` meets its contract: eight stores, one behind the other. Assumes nothing.
+-- `card::put_fields` meets its contract: ten stores, one behind the other. Assumes nothing.
 use mathlib.Core.List.{[], _∷_}
 use native.Mathlib.Omega.{arith}
 use lib.ListN.{length-set}
@@ -30,7 +30,13 @@ slice-write-fields-7 : tie.Need-slice-write-fields-7
 slice-write-fields-7 c = simp length-set (omega arith)
 
 slice-write-fields-8 : tie.Need-slice-write-fields-8
-slice-write-fields-8 c = search needs
+slice-write-fields-8 c = simp length-set (omega arith)
+
+slice-write-fields-9 : tie.Need-slice-write-fields-9
+slice-write-fields-9 c = simp length-set (omega arith)
+
+slice-write-fields-10 : tie.Need-slice-write-fields-10
+slice-write-fields-10 c = search needs
 
 same-length : tie.Need-same-length
 same-length c = search needs
@@ -38,7 +44,7 @@ same-length c = search needs
 returns : tie.Need-returns
 returns c =
     let v = c .args .c in
-    sets-eq (v .version ∷ v .band ∷ v .kind ∷ v .rate ∷ v .modulation ∷ v .taps ∷ v .spare ∷ v .serial ∷ []) (now (c .args .fields)) 0 (omega arith)
+    sets-eq (v .version ∷ v .band ∷ v .kind ∷ v .rate ∷ v .modulation ∷ v .taps ∷ v .spare ∷ v .serial ∷ v .blocks ∷ v .copies ∷ []) (now (c .args .fields)) 0 (omega arith)
 
 pub put-fields-spec : {M : Type 1} → statement M
 put-fields-spec =
@@ -52,5 +58,7 @@ put-fields-spec =
     slice-write-fields-6
     slice-write-fields-7
     slice-write-fields-8
+    slice-write-fields-9
+    slice-write-fields-10
     same-length
     returns)

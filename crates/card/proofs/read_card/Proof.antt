@@ -1,5 +1,5 @@
 -- `card::read_card` meets its contract: each return is a row of its table. Assumes nothing.
-use mathlib.Core.Path.{sym, ap, _∙_}
+use mathlib.Core.Path.{_≡_, sym, ap, _∙_}
 use borrow.Author.Tests.{eq-eqb, ne-eqb, not-true, not-false}
 use Rattle.refusal.specs.Report.{done}
 use Rattle.card.specs.Entries.{readCard}
@@ -7,12 +7,15 @@ use borrow.Author.Needs.{needs}
 use Rattle.card.proofs.read_card.Statement.{statement}
 use Rattle.card.proofs.read_card.Tie as tie
 
+is-length-requires : tie.Need-is-length-requires
+is-length-requires c κs = search needs
+
 returns : tie.Need-returns
 unfolding readCard
-returns c = simp (ne-eqb _ _ (c .if1 .taken))
+returns c = simp (sym (c .before .is-length .ensures) ∙ not-true _ (c .if1 .taken))
 
 unpack-requires : tie.Need-unpack-requires
-unpack-requires c κs = search needs
+unpack-requires c κs = sym (c .before .is-length .ensures) ∙ not-false _ (c .if1 .left)
 
 is-versioned-requires : tie.Need-is-versioned-requires
 is-versioned-requires c κs = search needs
@@ -22,41 +25,89 @@ unfolding readCard
 returns-2 c =
     let read = c .before .before in
     let is = read .unpack .ensures in
-    let long = eq-eqb _ _ (read .before .if1 .left) in
+    let long = sym (read .before .before .is-length .ensures) ∙ not-false _ (read .before .if1 .left) in
     let version = rw is at (sym (c .before .is-versioned .ensures)) in
     simp (long, version ∙ not-true _ (c .if2 .taken))
 
-is-defined-requires : tie.Need-is-defined-requires
-is-defined-requires c κs = search needs
+is-padded-requires : tie.Need-is-padded-requires
+is-padded-requires c κs = search needs
 
 returns-3 : tie.Need-returns-3
 unfolding readCard
 returns-3 c =
-    let read = c .before .before .before .before in
+    let versioned = c .before .before .before in
+    let read = versioned .before in
     let is = read .unpack .ensures in
-    let long = eq-eqb _ _ (read .before .if1 .left) in
-    let version = rw is at (sym (c .before .before .before .is-versioned .ensures)) in
-    let mode = rw is at (sym (c .before .is-defined .ensures)) in
-    simp (long, version ∙ not-false _ (c .before .before .if2 .left), mode ∙ not-true _ (c .if3 .taken))
+    let long = sym (read .before .before .is-length .ensures) ∙ not-false _ (read .before .if1 .left) in
+    let version = rw is at (sym (versioned .is-versioned .ensures)) in
+    let pad = rw is at (sym (c .before .is-padded .ensures)) in
+    simp (long, version ∙ not-false _ (c .before .before .if2 .left), pad ∙ c .if3 .taken)
+
+card-bytes-requires : tie.Need-card-bytes-requires
+card-bytes-requires c κs = search needs
 
 returns-4 : tie.Need-returns-4
 unfolding readCard
 returns-4 c =
-    let read = c .before .before .before .before in
+    let padded = c .before .before .before in
+    let versioned = padded .before .before in
+    let read = versioned .before in
     let is = read .unpack .ensures in
-    let long = eq-eqb _ _ (read .before .if1 .left) in
-    let version = rw is at (sym (c .before .before .before .is-versioned .ensures)) in
+    let long = sym (read .before .before .is-length .ensures) ∙ not-false _ (read .before .if1 .left) in
+    let version = rw is at (sym (versioned .is-versioned .ensures)) in
+    let pad = rw is at (sym (padded .is-padded .ensures)) in
+    let bytes = rw is at (c .before .card-bytes .ensures) in
+    let other = rw bytes at (c .if4 .taken) in
+    simp (long, version ∙ not-false _ (padded .before .if2 .left), pad ∙ c .before .before .if3 .left, ne-eqb _ _ other)
+
+is-defined-requires : tie.Need-is-defined-requires
+is-defined-requires c κs = search needs
+
+returns-5 : tie.Need-returns-5
+unfolding readCard
+returns-5 c =
+    let counted = c .before .before .before in
+    let padded = counted .before .before in
+    let versioned = padded .before .before in
+    let read = versioned .before in
+    let is = read .unpack .ensures in
+    let long = sym (read .before .before .is-length .ensures) ∙ not-false _ (read .before .if1 .left) in
+    let version = rw is at (sym (versioned .is-versioned .ensures)) in
+    let pad = rw is at (sym (padded .is-padded .ensures)) in
+    let bytes = rw is at (counted .card-bytes .ensures) in
+    let same = rw bytes at (c .before .before .if4 .left) in
     let mode = rw is at (sym (c .before .is-defined .ensures)) in
-    simp (long, version ∙ not-false _ (c .before .before .if2 .left), mode ∙ not-false _ (c .if3 .left)) (ap done is)
+    simp (long, version ∙ not-false _ (padded .before .if2 .left), pad ∙ counted .before .if3 .left, eq-eqb _ _ same, mode ∙ not-true _ (c .if5 .taken))
+
+returns-6 : tie.Need-returns-6
+unfolding readCard
+returns-6 c =
+    let counted = c .before .before .before in
+    let padded = counted .before .before in
+    let versioned = padded .before .before in
+    let read = versioned .before in
+    let is = read .unpack .ensures in
+    let long = sym (read .before .before .is-length .ensures) ∙ not-false _ (read .before .if1 .left) in
+    let version = rw is at (sym (versioned .is-versioned .ensures)) in
+    let pad = rw is at (sym (padded .is-padded .ensures)) in
+    let bytes = rw is at (counted .card-bytes .ensures) in
+    let same = rw bytes at (c .before .before .if4 .left) in
+    let mode = rw is at (sym (c .before .is-defined .ensures)) in
+    simp (long, version ∙ not-false _ (padded .before .if2 .left), pad ∙ counted .before .if3 .left, eq-eqb _ _ same, mode ∙ not-false _ (c .if5 .left)) (ap done is)
 
 pub read-card-spec : {M : Type 1} → statement M
 read-card-spec =
     tie.close
     (tie.spec
+    is-length-requires
     returns
     unpack-requires
     is-versioned-requires
     returns-2
-    is-defined-requires
+    is-padded-requires
     returns-3
-    returns-4)
+    card-bytes-requires
+    returns-4
+    is-defined-requires
+    returns-5
+    returns-6)

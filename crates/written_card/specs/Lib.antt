@@ -1,0 +1,3 @@
+-- What the contracts and the theorems of `written_card` cite. Assumes nothing.
+pub mod Entries
+pub mod Loops
