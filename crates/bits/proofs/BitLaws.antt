@@ -188,6 +188,11 @@ written-bits n d was bytes b e i h =
     (ap (λ (l : List ℕ). getD l (i / 8) 0) e ∙ getD-written n (byteOf d) was (i / 8) 0 (omega arith) ∙ sym (getD-tabulate n (byteOf d) (i / 8) 0 (omega arith)))
     ∙ bits-bytes n d b i h
 
+-- no bits are the number 0
+pub field-none : (bytes : List ℕ) (at : ℕ) → field bytes at 0 ≡ 0
+unfolding field pack
+field-none bytes at = refl
+
 pub field-append : (bytes : List ℕ) (at n m : ℕ) → field bytes at (n + m) ≡ field bytes at n * 2 ^ m + field bytes (at + n) m
 unfolding field
 field-append bytes at n m =

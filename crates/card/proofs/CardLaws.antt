@@ -8,8 +8,8 @@ use lib.Dec.{eqb}
 use lib.ListN.{length, getD}
 use lib.Pow.{shr-shr}
 use borrow.Author.Tests.{eqb-true}
-use Rattle.bits.specs.Bits.{field, pack}
-use Rattle.bits.proofs.BitLaws.{field-in-byte, field-within}
+use Rattle.bits.specs.Bits.{field}
+use Rattle.bits.proofs.BitLaws.{field-none, field-in-byte, field-within}
 use Rattle.bits.proofs.RangeLaws.{agree}
 use Rattle.card.specs.declared.Card.{Card}
 use Rattle.card.specs.Card.{fieldsFrom, copyCount, cardOf, paddingOf}
@@ -30,11 +30,6 @@ count-of = agree 8 (λ code. getD (1 ∷ 2 ∷ 4 ∷ 5 ∷ 7 ∷ 11 ∷ 0 ∷ 0 
 left : (b : Bool) → (b || false) ≡ true → b ≡ true
 left true e = refl
 left false e = e
-
--- no bits are the number 0
-field-none : (bytes : List ℕ) (at : ℕ) → field bytes at 0 ≡ 0
-unfolding field pack
-field-none bytes at = refl
 
 -- a number shifted up by a byte, and down by more
 shifted-up : (x rest : ℕ) → x * 256 / 2 ^ (8 + rest) ≡ x / 2 ^ rest

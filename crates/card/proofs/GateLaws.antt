@@ -1,13 +1,13 @@
 -- Laws of the gate, over any kinds that an entry serves and any rows behind the card's. Assumes nothing.
-use mathlib.Core.Path.{_≡_, sym, ap, _∙_}
+use mathlib.Core.Path.{_≡_, refl, sym, ap, _∙_}
 use mathlib.Core.Bool.{true, false, not}
 use mathlib.Core.List.{List, [], _∷_, _++_}
 use Prim.Native.Nat.{ℕ, _<_, _^_}
-use lib.Dec.{leb}
+use lib.Dec.{eqb, leb}
 use lib.ListN.{length}
 use borrow.Author.Tests.{eqb-true, leb-true, not-false}
-use Rattle.bits.proofs.BitLaws.{field-lt}
-use Rattle.bits.proofs.BoolLaws.{both, neither}
+use Rattle.bits.proofs.BitLaws.{field-none, field-lt}
+use Rattle.bits.proofs.BoolLaws.{test-cases, both, neither}
 use Rattle.refusal.specs.declared.Refusal.{Refusal}
 use Rattle.refusal.specs.declared.Refusal.the-variants.{Mode}
 use Rattle.refusal.specs.Report.{done, refusal}
@@ -15,7 +15,7 @@ use Rattle.refusal.specs.Outcome.{Row, row, firstApplicable, rowOrder, inOrder,
 use Rattle.refusal.proofs.OutcomeLaws.{NoneApplies, outcomeBy, done-same, reported-done, refused-report, passed-report, refused-outcome, passed-outcome}
 use Rattle.card.specs.declared.Card.{Card}
 use Rattle.card.specs.Card.{cardBytes, cardOf}
-use Rattle.card.specs.Modes.{defined}
+use Rattle.card.specs.Modes.{single, defined}
 use Rattle.card.specs.Entries.{versioned, padded, cardRows, readCard}
 use Rattle.card.specs.Gate.{within, gateRows, gate, Served}
 use Rattle.card.proofs.ModeLaws.{defined-mode, defined-card}
@@ -50,6 +50,16 @@ read-sound bytes c e = card-sound bytes (reported-done (cardRows bytes) (cardOf 
 pub card-taps : (card : List ℕ) → cardOf card .taps < 2 ^ 11
 unfolding cardOf
 card-taps card = field-lt card 12 11
+
+-- the serial has 64
+pub card-serial : (card : List ℕ) → cardOf card .serial < 2 ^ 64
+unfolding cardOf
+card-serial card = test-cases (eqb (length card) 12) (λ is. rw is (field-lt card 32 64)) (λ other. rw other (field-lt card 24 64))
+
+-- eleven bytes say one block and one copy
+pub eleven-single : (card : List ℕ) → length card ≡ 11 → single (cardOf card) ≡ true
+unfolding cardOf
+eleven-single card long = rw (long, field-none card 24) refl
 
 module _ (first last : ℕ) (card : List ℕ) where
   abbrev kindRow : List Row

@@ -102,6 +102,14 @@ done-by {A} (r ∷ rows) a d e = go (r .applies) refl e (done-by rows a d)
 pub reported-done : {A : Type 0} (rows : List Row) (a d : A) → reported rows a ≡ done d → NoneApplies (inOrder rowOrder rows) × (reported rows a ≡ done a)
 reported-done rows a d e = done-by (inOrder rowOrder rows) a d e
 
+-- where no row applies, the answer
+pub reported-good : {A : Type 0} (rows : List Row) (a : A) → NoneApplies (inOrder rowOrder rows) → reported rows a ≡ done a
+reported-good rows a none = good (inOrder rowOrder rows) none
+  where
+    good : (rs : List Row) → NoneApplies rs → firstApplicable rs refusal (done a) ≡ done a
+    good [] none = refl
+    good (r ∷ rs) (no-row, none) = rw no-row (good rs none)
+
 outcome-by-good : {A B : Type 0} (rows : List Row) (out : B) (a : A) (made : B) → NoneApplies rows → outcomeBy rows out a made ≡ record { report = done a; out = made }
 outcome-by-good [] out a made none = refl
 outcome-by-good (r ∷ rows) out a made (no-row, none) = rw no-row (outcome-by-good rows out a made none)

@@ -1,46 +1,41 @@
--- Laws of writing a card: its eleven bytes, and the fields that fit them. Assumes nothing.
+-- Laws of the bytes of a card, and of the fields that fit them. Assumes nothing.
 use mathlib.Core.Path.{_≡_, refl, sym, ap, ap₂, _∙_}
 use mathlib.Core.Bool.{true, _&&_}
+use mathlib.Core.Logic.{⊎-elim}
 use mathlib.Core.List.{List, [], _∷_, _++_}
 use Prim.Native.Nat.{ℕ, _+_, _-_, _*_, _/_, _%_, _^_, _≤_, _<_}
 use native.Mathlib.Nat.{add-mul-div-right, add-mul-mod-self-right, add-comm, mul-assoc}
 use native.Mathlib.Omega.{arith}
-use lib.Dec.{ltb}
+use lib.Dec.{eqb}
 use lib.ListN.{length, drop}
 use lib.Pow.{pow-pos, pow-add, shr-shr, high}
+use borrow.Author.Tests.{eqb-true, eq-eqb}
 use Rattle.bits.specs.Bits.{bitAt, byteOf, bytesOf}
-use Rattle.bits.specs.Lists.{tabulate}
-use borrow.Author.Tests.{ltb-true}
+use Rattle.bits.specs.Lists.{lowest, written}
 use Rattle.bits.proofs.BoolLaws.{both}
-use Rattle.card.specs.Modes.{defined}
-use Rattle.card.specs.Entries.{versioned}
-use Rattle.card.proofs.ModeLaws.{versioned-is, defined-mode}
 use Rattle.bits.proofs.BitLaws.{pack-ext, pack-shifted, length-bytes}
 use Rattle.card.specs.declared.Card.{Card}
-use Rattle.card.specs.Card.{packed, bytesOfCard}
-use Rattle.card.specs.Loops.Fields.{Fitting}
+use Rattle.card.specs.Modes.{single, defined}
+use Rattle.card.specs.Card.{cardBytes, widths, copyCode, packed, numbersOf, bytesOfCard}
+use Rattle.card.specs.Entries.{isVersion, versioned}
+use Rattle.card.proofs.ModeLaws.{defined-mode, defined-card, single-is, version-is}
+use Rattle.written_card.specs.Entries.{putInto, inVersion}
+use Rattle.written_card.specs.Loops.Fields.{Fitting, headOf, cardByte}
 
--- byte k of a number of 88 bits
-byte-at : (n k : ℕ) → k ≤ 10 → byteOf (λ i. bitAt (87 - i) n) k ≡ n / 2 ^ (80 - 8 * k) % 256
+-- ---- bytes
+
+-- byte k of a number of so many bytes
+byte-at : (bytes n k : ℕ) → k < bytes → byteOf (λ i. bitAt (8 * bytes - 1 - i) n) k ≡ n / 2 ^ (8 * (bytes - 1 - k)) % 256
 unfolding byteOf
-byte-at n k h = pack-ext 8 _ (λ j. bitAt (80 - 8 * k + (8 - 1 - j)) n) same ∙ pack-shifted 8 (80 - 8 * k) n
+byte-at bytes n k h = pack-ext 8 _ (λ j. bitAt (8 * (bytes - 1 - k) + (8 - 1 - j)) n) same ∙ pack-shifted 8 (8 * (bytes - 1 - k)) n
   where
-    same : (j : ℕ) → j < 8 → bitAt (87 - (8 * k + j)) n ≡ bitAt (80 - 8 * k + (8 - 1 - j)) n
-    same j l = let e : 87 - (8 * k + j) ≡ 80 - 8 * k + (8 - 1 - j) = omega arith in rw e
+    same : (j : ℕ) → j < 8 → bitAt (8 * bytes - 1 - (8 * k + j)) n ≡ bitAt (8 * (bytes - 1 - k) + (8 - 1 - j)) n
+    same j l = let e : 8 * bytes - 1 - (8 * k + j) ≡ 8 * (bytes - 1 - k) + (8 - 1 - j) = omega arith in rw e
 
--- the first three bytes are those of the seven short fields, h; the last eight are the serial's, s
-head-byte : (h s k : ℕ) → s < 2 ^ 64 → k < 3 → byteOf (λ i. bitAt (87 - i) (h * 2 ^ 64 + s)) k ≡ h / 2 ^ (16 - 8 * k) % 256
-head-byte h s k small l =
-    let e : 80 - 8 * k ≡ 64 + (16 - 8 * k) = omega arith in
-    byte-at (h * 2 ^ 64 + s) k (omega arith)
-    ∙ (rw (e, ← shr-shr (h * 2 ^ 64 + s) 64 (16 - 8 * k)) (ap (λ (x : ℕ). x / 2 ^ (16 - 8 * k) % 256) (high h 64 small)))
-
-serial-byte : (h s k : ℕ) → k < 8 → byteOf (λ i. bitAt (87 - i) (h * 2 ^ 64 + s)) (3 + k) ≡ s / 2 ^ (56 - 8 * k) % 256
-serial-byte h s k l =
-    let e : 80 - 8 * (3 + k) ≡ 56 - 8 * k = omega arith in
-    byte-at (h * 2 ^ 64 + s) (3 + k) (omega arith)
-    ∙ ap (λ (x : ℕ). (h * 2 ^ 64 + s) / 2 ^ x % 256) e
-    ∙ ap (λ (x : ℕ). x / 2 ^ (56 - 8 * k) % 256) whole
+-- a byte of the serial, s, which stands behind the head, h
+low-byte : (h s k : ℕ) → k < 8 → (h * 2 ^ 64 + s) / 2 ^ (56 - 8 * k) % 256 ≡ s / 2 ^ (56 - 8 * k) % 256
+low-byte h s k l =
+    ap (λ (x : ℕ). x / 2 ^ (56 - 8 * k) % 256) whole
     ∙ ap (λ (x : ℕ). x % 256) (add-mul-div-right s (h * 2 ^ (8 * k) * 256) (pow-pos (56 - 8 * k)))
     ∙ add-mul-mod-self-right (s / 2 ^ (56 - 8 * k)) (h * 2 ^ (8 * k)) 256
   where
@@ -54,60 +49,103 @@ serial-byte h s k l =
         add-comm (h * 2 ^ 64) s
         ∙ ap (λ (x : ℕ). s + x) (ap (λ (x : ℕ). h * x) power ∙ sym (mul-assoc h (2 ^ (8 * k) * 256) (2 ^ (56 - 8 * k))) ∙ ap (λ (x : ℕ). x * 2 ^ (56 - 8 * k)) (sym (mul-assoc h (2 ^ (8 * k)) 256)))
 
--- the seven short fields as one number
-abbrev short : Card → ℕ
-short c = packed (4 ∷ 2 ∷ 3 ∷ 1 ∷ 2 ∷ 11 ∷ 1 ∷ []) (c .version ∷ c .band ∷ c .kind ∷ c .rate ∷ c .modulation ∷ c .taps ∷ c .spare ∷ []) 0
+module _ (bytes head serial i : ℕ) where
+  -- a byte of the head, and one of the serial
+  pub head-byte : serial < 2 ^ 64 → i < bytes → head / 2 ^ (8 * (bytes - 1 - i)) % 256 ≡ cardByte bytes head serial i
+  unfolding cardByte
+  head-byte small l =
+      let e : 8 * (bytes + 8 - 1 - i) ≡ 64 + 8 * (bytes - 1 - i) = omega arith in
+      sym
+      (byte-at (bytes + 8) (head * 2 ^ 64 + serial) i (omega arith)
+      ∙ ap (λ (x : ℕ). (head * 2 ^ 64 + serial) / 2 ^ x % 256) e
+      ∙ ap (λ (x : ℕ). x % 256) (sym (shr-shr (head * 2 ^ 64 + serial) 64 (8 * (bytes - 1 - i))))
+      ∙ ap (λ (x : ℕ). x / 2 ^ (8 * (bytes - 1 - i)) % 256) (high head 64 small))
 
-module _ (c : Card) (fits : Fitting c) where
-  first : c .version * 16 + c .band * 4 + c .kind / 2 ≡ short c / 2 ^ 16 % 256
-  first = omega (arith, fits .version, fits .band, fits .kind, fits .rate, fits .modulation, fits .taps, fits .spare)
+  pub serial-byte : bytes ≤ i → i < bytes + 8 → serial / 2 ^ (8 * (bytes + 7 - i)) % 256 ≡ cardByte bytes head serial i
+  unfolding cardByte
+  serial-byte from to =
+      let e : 8 * (bytes + 8 - 1 - i) ≡ 56 - 8 * (i - bytes) = omega arith in
+      let f : 8 * (bytes + 7 - i) ≡ 56 - 8 * (i - bytes) = omega arith in
+      ap (λ (x : ℕ). serial / 2 ^ x % 256) f
+      ∙ sym
+      (byte-at (bytes + 8) (head * 2 ^ 64 + serial) i (omega arith)
+      ∙ ap (λ (x : ℕ). (head * 2 ^ 64 + serial) / 2 ^ x % 256) e ∙ low-byte head serial (i - bytes) (omega arith))
 
-  second : c .kind % 2 * 128 + c .rate * 64 + c .modulation * 16 + c .taps / 128 ≡ short c / 2 ^ 8 % 256
-  second = omega (arith, fits .version, fits .band, fits .kind, fits .rate, fits .modulation, fits .taps, fits .spare)
+pub length-card : (c : Card) → length (bytesOfCard c) ≡ cardBytes (c .version)
+unfolding bytesOfCard
+length-card c = length-bytes (cardBytes (c .version)) _
 
-  third : c .taps % 128 * 2 + c .spare ≡ short c / 2 ^ 0 % 256
-  third = omega (arith, fits .version, fits .band, fits .kind, fits .rate, fits .modulation, fits .taps, fits .spare)
+-- ---- a card in some memory
 
-  -- the eleven bytes, from what each byte of the serial is
-  pub bytes-packed : c .serial < 2 ^ 64 → (s₀ s₁ s₂ s₃ s₄ s₅ s₆ s₇ : ℕ)
-      → s₀ ≡ c .serial / 2 ^ (56 - 8 * 0) % 256 → s₁ ≡ c .serial / 2 ^ (56 - 8 * 1) % 256 → s₂ ≡ c .serial / 2 ^ (56 - 8 * 2) % 256 → s₃ ≡ c .serial / 2 ^ (56 - 8 * 3) % 256 → s₄ ≡ c .serial / 2 ^ (56 - 8 * 4) % 256 → s₅ ≡ c .serial / 2 ^ (56 - 8 * 5) % 256 → s₆ ≡ c .serial / 2 ^ (56 - 8 * 6) % 256 → s₇ ≡ c .serial / 2 ^ (56 - 8 * 7) % 256
-      → (c .version * 16 + c .band * 4 + c .kind / 2) ∷ (c .kind % 2 * 128 + c .rate * 64 + c .modulation * 16 + c .taps / 128) ∷ (c .taps % 128 * 2 + c .spare)
-      ∷ s₀ ∷ s₁ ∷ s₂ ∷ s₃ ∷ s₄ ∷ s₅ ∷ s₆ ∷ s₇ ∷ []
-      ≡ bytesOfCard c
-  unfolding bytesOfCard bytesOf tabulate
-  bytes-packed small s₀ s₁ s₂ s₃ s₄ s₅ s₆ s₇ e₀ e₁ e₂ e₃ e₄ e₅ e₆ e₇ =
-      ap₂ _∷_ (first ∙ sym (head-byte (short c) (c .serial) 0 small (omega arith)))
-      (ap₂ _∷_ (second ∙ sym (head-byte (short c) (c .serial) 1 small (omega arith)))
-      (ap₂ _∷_ (third ∙ sym (head-byte (short c) (c .serial) 2 small (omega arith)))
-      (ap₂ _∷_ (e₀ ∙ sym (serial-byte (short c) (c .serial) 0 (omega arith)))
-      (ap₂ _∷_ (e₁ ∙ sym (serial-byte (short c) (c .serial) 1 (omega arith)))
-      (ap₂ _∷_ (e₂ ∙ sym (serial-byte (short c) (c .serial) 2 (omega arith)))
-      (ap₂ _∷_ (e₃ ∙ sym (serial-byte (short c) (c .serial) 3 (omega arith)))
-      (ap₂ _∷_ (e₄ ∙ sym (serial-byte (short c) (c .serial) 4 (omega arith)))
-      (ap₂ _∷_ (e₅ ∙ sym (serial-byte (short c) (c .serial) 5 (omega arith)))
-      (ap₂ _∷_ (e₆ ∙ sym (serial-byte (short c) (c .serial) 6 (omega arith)))
-      (ap₂ _∷_ (e₇ ∙ sym (serial-byte (short c) (c .serial) 7 (omega arith))) refl))))))))))
+code-of-one : copyCode 1 ≡ 0
+unfolding copyCode lowest
+code-of-one = refl
+
+module _ (c : Card) (out now : List ℕ) where
+  abbrev number : ℕ → ℕ
+  number bytes = packed (widths bytes) (numbersOf c) 0
+
+  -- the bytes of a head and a serial that make the card's number
+  stored : (bytes head : ℕ) → cardBytes (c .version) ≡ bytes + 8 → number (bytes + 8) ≡ head * 2 ^ 64 + c .serial
+      → now ≡ written (bytes + 8) (cardByte bytes head (c .serial)) out → now ≡ putInto c out
+  unfolding bytesOfCard bytesOf written cardByte
+  stored bytes head long same e = e ∙ (rw (long, same) refl)
+
+  pub stored-2 : c .version ≡ 2 → now ≡ written 12 (cardByte 4 (headOf c) (c .serial)) out → now ≡ putInto c out
+  stored-2 is e = stored 4 (headOf c) (rw is refl) refl e
+
+  pub stored-1 : c .version ≡ 1 → single c ≡ true → now ≡ written 11 (cardByte 3 (headOf c / 256) (c .serial)) out → now ≡ putInto c out
+  stored-1 is one e =
+      let (blocks, copies) = single-is c one in
+      let code : copyCode (c .copies) ≡ 0 = ap copyCode copies ∙ code-of-one in
+      let same : number 11 ≡ headOf c / 256 * 2 ^ 64 + c .serial = ap (λ (x : ℕ). x * 2 ^ 64 + c .serial) (omega arith) in
+      stored 3 (headOf c / 256) (rw is refl) same e
+
+-- ---- fields
+
+version-small : (version : ℕ) → isVersion version ≡ true → version < 16
+version-small version is = ⊎-elim (λ one. omega arith) (λ two. omega arith) (version-is version is)
+
+-- a version that is not 2
+pub version-1 : (version : ℕ) → isVersion version ≡ true → (version ≡ 2 → ⊥) → version ≡ 1
+version-1 version is other = ⊎-elim (λ one. one) (λ two. absurd (other two)) (version-is version is)
 
 -- fields that pass the tests of writing fit
-pub writable-fits : (c : Card) → versioned c ≡ true → (defined c && ltb (c .taps) (2 ^ 11)) ≡ true → Fitting c
-writable-fits c v w =
-    let (one, none) = versioned-is (c .version) (c .spare) v in
-    let (mode, taps) = both (defined c) (ltb (c .taps) (2 ^ 11)) w in
+pub writable-fits : (c : Card) → versioned c ≡ true → defined c ≡ true → c .taps < 2 ^ 11 → Fitting c
+writable-fits c v w taps =
+    let (version, spare) = both (isVersion (c .version)) (eqb (c .spare) 0) v in
+    let (mode, one) = defined-card c w in
     let (kinds, bands, modulations) = defined-mode (c .band) (c .kind) (c .rate) (c .modulation) mode in
+    let (blocks, copies) = single-is c one in
+    let none = eqb-true (c .spare) 0 spare in
+    let code : copyCode (c .copies) ≡ 0 = ap copyCode copies ∙ code-of-one in
     record {
-      version = omega arith;
+      version = version;
+      version-lt = version-small (c .version) version;
       band = omega arith;
       kind = omega (arith, kinds .kind-lt);
       rate = kinds .rate-lt;
       modulation = omega arith;
-      taps = ltb-true (c .taps) (2 ^ 11) taps;
+      taps = taps;
       spare = omega arith;
+      blocks-from = omega arith;
+      blocks-to = omega arith;
+      copies = omega arith;
     }
 
-pub length-card : (c : Card) → length (bytesOfCard c) ≡ 11
-unfolding bytesOfCard
-length-card c = length-bytes 11 _
-
--- the card's bytes, put at the start of a buffer
-pub card-put : (c : Card) (bytes out now : List ℕ) → bytes ≡ bytesOfCard c → now ≡ bytes ++ drop (length bytes) out → now ≡ bytesOfCard c ++ drop 11 out
-card-put c bytes out now e g = g ∙ (rw (e, length-card c))
+-- they fit in another version too
+pub fits-in : (version : ℕ) (c : Card) → isVersion version ≡ true → Fitting c → Fitting (inVersion version c)
+fits-in version c is fits =
+    record {
+      version = is;
+      version-lt = version-small version is;
+      band = fits .band;
+      kind = fits .kind;
+      rate = fits .rate;
+      modulation = fits .modulation;
+      taps = fits .taps;
+      spare = fits .spare;
+      blocks-from = fits .blocks-from;
+      blocks-to = fits .blocks-to;
+      copies = fits .copies;
+    }

@@ -6,12 +6,13 @@ use card::CardRead;
 use refusal::Answer;
 use refusal::Refusal;
 ghost use mathlib.Core.Path.{_≡_};
-ghost use mathlib.Core.Bool.{true, _&&_};
+ghost use mathlib.Core.Bool.{true, cond, not, _&&_, _||_};
 ghost use Prim.Native.Nat.{_+_, _^_, _<_, _≤_};
 ghost use lib.Dec.{eqb, ltb};
 ghost use lib.ListN.{length};
 ghost use Rattle.bits.specs.Lists.{written};
-ghost use Rattle.refusal.specs.Report.{answer};
+ghost use Rattle.refusal.specs.declared.Refusal.the-variants.{CardLength, Version};
+ghost use Rattle.refusal.specs.Report.{answer, refusal};
 ghost use Rattle.card.specs.Modes.{defined, single};
 ghost use Rattle.card.specs.Card.{cardBytes};
 ghost use Rattle.written_card.specs.Entries.{putInto, writeCard, inVersion, moveCard};
@@ -134,7 +135,9 @@ fn in_version(version: u64, c: Card) -> Card
 }
 
 // Why a card of so many bytes is not moved to a version that there is not.
-fn no_version(n: usize) -> Answer {
+fn no_version(n: usize) -> Answer
+    ensures { λ r. ⌜ answer r ≡ cond (eqb n 11 || eqb n 12) (refusal Version) (refusal (CardLength n)) ⌝ }
+{
     if card::is_length(n) {
         return Answer::Refused(Refusal::Version);
     }

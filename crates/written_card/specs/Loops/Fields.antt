@@ -13,6 +13,7 @@ use Rattle.written_card.specs.Entries.{putRows, putInto}
 -- each field but the serial fits its bits in version 2
 pub record Fitting (c : Card) : Type 0 where
   pub version : isVersion (c .version) ≡ true
+  pub version-lt : c .version < 16
   pub band : c .band < 4
   pub kind : c .kind < 8
   pub rate : c .rate < 2
