@@ -21,11 +21,13 @@ use Rattle.frame_control.specs.Words.{made}
 use Rattle.frame_control.proofs.FrameLaws.{send-good, made-is, clean, comes-back, refused-at-limit, made-length, made-binary}
 use Rattle.card.specs.Card.{cardOf}
 use Rattle.card.specs.Modes.{blockBytes, carrierBits, definedMode}
-use Rattle.card.specs.Entries.{fieldRows, readFields, writeRows, writeCard}
+use Rattle.card.specs.Entries.{fieldRows, readFields}
+use Rattle.written_card.specs.Entries.{writeRows, writeCard, moveRows, moveCard}
 use Rattle.card.specs.Gate.{gateRows}
 use Rattle.printed_card.specs.Text.{textRows, textCard}
 use Rattle.card.proofs.GateLaws.{gate-served}
-use Rattle.card.proofs.RoundTrip.{write-after-read, read-after-write}
+use Rattle.written_card.proofs.RoundTrip.{write-after-read, read-after-write}
+use Rattle.written_card.proofs.MoveLaws.{moves-up, moves-back, back-only-single, stays, there-and-back, same-version}
 use Rattle.constellation.specs.Entries.{mapRows, mapOutcome}
 use Rattle.slicing.specs.Entries.{sliceRows, sliceOutcome}
 use Rattle.diversity.proofs.BandLaws.{band-range, band-fewest-met, band-most-met, fewest-of}
@@ -36,16 +38,17 @@ use Rattle.payload.specs.Entries.{layoutOfCard, sendRows, send as payloadSend, 
 use Rattle.payload.specs.Words.{made as payloadMade}
 use Rattle.payload.proofs.ModeLaws.{layout-items}
 use Rattle.payload.proofs.ReturnLaws.{blockBits, send-good as payload-sent, made-is as payload-made-is, clean as payload-clean, survives as payload-back, made-length as payload-length, made-binary as payload-binary}
-use Rattle.demands.specs.Demands.{Keeps, Outgoing, PayloadOutgoing, CardWritten, CardReadAgain, CleanReturn, PayloadCleanReturn, PayloadSurvives, Lanes, Fewest, Survives, BestPossible, BandsOfCards, Lengths}
+use Rattle.demands.specs.Demands.{Keeps, Outgoing, PayloadOutgoing, CardWritten, CardReadAgain, CardMoved, CleanReturn, PayloadCleanReturn, PayloadSurvives, Lanes, Fewest, Survives, BestPossible, BandsOfCards, Lengths}
 
 -- ---- Demand 1
 
 pub keeps : Keeps
-unfolding readFields writeCard textCard mapOutcome sliceOutcome send read payloadSend payloadRead
+unfolding readFields writeCard moveCard textCard mapOutcome sliceOutcome send read payloadSend payloadRead
 keeps =
     record {
       card-read = λ bytes fields. kept {A = ℕ} (fieldRows bytes fields) fields _ _;
       card-write = λ c out. kept {A = ℕ} (writeRows c out) out _ _;
+      card-move = λ bytes version out. kept {A = ℕ} (moveRows bytes version out) out _ _;
       card-text = λ bytes out. kept {A = ℕ} (textRows bytes out) out _ _;
       map = λ modulation bits point. kept {A = ℕ} (mapRows modulation bits point) point _ _;
       slice = λ modulation received out. kept {A = ℕ} (sliceRows modulation out) out _ _;
@@ -78,6 +81,17 @@ card-written = write-after-read
 
 pub card-read-again : CardReadAgain
 card-read-again = read-after-write
+
+pub card-moved : CardMoved
+card-moved bytes small c read =
+    record {
+      moves-up = moves-up bytes c read;
+      moves-back = moves-back bytes c read;
+      back-only-single = back-only-single bytes c read;
+      stays = stays bytes c read;
+      there-and-back = there-and-back bytes c read small;
+      same-version = same-version bytes c read small;
+    }
 
 two-a-carrier : (C : ℕ) (os : List ℕ) → itemCount C os ≡ 2 * carrierCount C os
 unfolding itemCount

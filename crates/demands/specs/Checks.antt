@@ -4,15 +4,17 @@ use mathlib.Core.List.{List, [], _∷_}
 use mathlib.Core.Path.{_≡_, refl}
 use Prim.{Unit}
 use Prim.Native.Nat.{ℕ, _+_, _-_, _*_}
-use Rattle.bits.specs.Bits.{bitOf, pack, byteOf, field}
+use lib.ListN.{replicate}
+use Rattle.bits.specs.Bits.{bitOf, pack, byteOf, field, bytesOf}
 use Rattle.bits.specs.Lists.{tabulate, lowest}
 use Rattle.bits.specs.Sums.{sum, count}
 use Rattle.refusal.specs.Report.{Report, done, refused}
 use Rattle.card.specs.declared.Card.{Card}
-use Rattle.card.specs.Card.{fieldsOf, cardOf}
+use Rattle.card.specs.Card.{fieldsOf, cardOf, paddingOf, copyCode, bytesOfCard}
 use Rattle.card.specs.Modes.{definedMode}
 use Rattle.card.specs.Entries.{readCard}
-use Rattle.printed_card.specs.Text.{modeLines, cardLines, cardText}
+use Rattle.written_card.specs.Entries.{moveCard}
+use Rattle.printed_card.specs.Text.{modeLines, countLines, cardLines, cardText}
 use Rattle.text.specs.Text.{ascii, places, decimal, binary}
 use Rattle.scrambler.specs.Scrambler.{feedback, shifted, afterShifts, scramblerBit, allOnes}
 use Rattle.constituent.specs.Encoder.{plus, startOf}
@@ -43,6 +45,10 @@ turnOf n = column n 0 ∷ column n 1 ∷ column n 2 ∷ column n 3 ∷ []
 abbrev exampleCard : List ℕ
 exampleCard = 0x12 ∷ 0x58 ∷ 0x8E ∷ 0x00 ∷ 0x20 ∷ 0x00 ∷ 0x00 ∷ 0x00 ∷ 0x00 ∷ 0x00 ∷ 0x01 ∷ []
 
+-- the same card in version 2
+abbrev secondCard : List ℕ
+secondCard = 0x22 ∷ 0x58 ∷ 0x8E ∷ 0x00 ∷ 0x00 ∷ 0x20 ∷ 0x00 ∷ 0x00 ∷ 0x00 ∷ 0x00 ∷ 0x00 ∷ 0x01 ∷ []
+
 -- what the rule gives, and what the paper prints
 abbrev pub checks : List (List ℕ × List ℕ)
 checks =
@@ -68,11 +74,19 @@ checks =
     ∷ (copiesOn 2 1 ∷ copiesOn 2 56 ∷ [], 7 ∷ 10 ∷ [])
     ∷ (copiesOn 3 1 ∷ copiesOn 3 48 ∷ [], 3 ∷ 7 ∷ [])
     -- P11: the example card, read and printed
-    ∷ (numbers (readCard exampleCard), 0 ∷ 1 ∷ 0 ∷ 4 ∷ 1 ∷ 1 ∷ 0b10001000111 ∷ 0 ∷ 9_007_199_254_740_993 ∷ [])
+    ∷ (numbers (readCard exampleCard), 0 ∷ 1 ∷ 0 ∷ 4 ∷ 1 ∷ 1 ∷ 0b10001000111 ∷ 0 ∷ 9_007_199_254_740_993 ∷ 1 ∷ 1 ∷ [])
     ∷ (
       cardText exampleCard,
       ascii "version 1\nband 0\nkind 4\nrate 1\nmodulation 1\ntaps 10001000111\nserial 9007199254740993\n",
     )
+    -- and in version 2: read, printed, and moved there and back
+    ∷ (numbers (readCard secondCard), 0 ∷ 2 ∷ 0 ∷ 4 ∷ 1 ∷ 1 ∷ 0b10001000111 ∷ 0 ∷ 9_007_199_254_740_993 ∷ 1 ∷ 1 ∷ [])
+    ∷ (
+      cardText secondCard,
+      ascii "version 2\nband 0\nkind 4\nrate 1\nmodulation 1\ntaps 10001000111\nblocks 1\ncopies 1\nserial 9007199254740993\n",
+    )
+    ∷ (moveCard exampleCard 2 (replicate 12 0) .out, secondCard)
+    ∷ (moveCard secondCard 1 (replicate 11 0) .out, exampleCard)
     -- P12: band 0, QPSK, 4,680 coded bits: symbols and pad
     ∷ (layoutOf 0 1 4680 .symbols ∷ layoutOf 0 1 4680 .pad ∷ [], 6 ∷ 252 ∷ [])
     ∷ []
@@ -83,5 +97,5 @@ Agree [] = Unit {0}
 Agree (row ∷ rows) = (row .0 ≡ row .1) × Agree rows
 
 pub checks-agree : Agree checks
-unfolding cardText cardLines modeLines decimal binary places lowest tabulate readCard cardOf definedMode field pack byteOf bitOf feedback shifted afterShifts scramblerBit startOf sourcePair offsets carriers carrierCount itemCount laneBit carries copies copiesOf sum count sourcePairBy plus layoutOf layoutFor padBits symbolCount symbolBits
-checks-agree = (refl, (refl, (refl, (refl, (refl, (refl, (refl, (refl, (refl, (refl, (refl, (refl, (refl, (refl, (refl, (refl, tt))))))))))))))))
+unfolding moveCard cardText cardLines modeLines countLines decimal binary places lowest tabulate readCard cardOf paddingOf copyCode bytesOfCard bytesOf definedMode field pack byteOf bitOf feedback shifted afterShifts scramblerBit startOf sourcePair offsets carriers carrierCount itemCount laneBit carries copies copiesOf sum count sourcePairBy plus layoutOf layoutFor padBits symbolCount symbolBits
+checks-agree = (refl, (refl, (refl, (refl, (refl, (refl, (refl, (refl, (refl, (refl, (refl, (refl, (refl, (refl, (refl, (refl, (refl, (refl, (refl, (refl, tt))))))))))))))))))))

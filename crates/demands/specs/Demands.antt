@@ -1,5 +1,5 @@
 -- The three demands, over the same outcome definitions that the entries' contracts cite. proofs/Proved.antt proves each. Assumes nothing.
-use mathlib.Core.Bool.{_&&_}
+use mathlib.Core.Bool.{true, false, _&&_}
 use mathlib.Core.List.{List, [], _∷_, _++_}
 use mathlib.Core.Path.{_≡_}
 use Prim.Native.Nat.{ℕ, _+_, _*_, _^_, _≤_, _<_}
@@ -8,12 +8,14 @@ use lib.Ieee.{Float}
 use lib.ListN.{length, getD, take, drop}
 use Rattle.bits.specs.Bits.{bitOf}
 use Rattle.bits.specs.Lists.{tabulate}
-use Rattle.refusal.specs.Report.{done, number}
+use Rattle.refusal.specs.declared.Refusal.the-variants.{Counts}
+use Rattle.refusal.specs.Report.{done, refusal, number}
 use Rattle.refusal.specs.Outcome.{Outcome}
 use Rattle.card.specs.declared.Card.{Card}
 use Rattle.card.specs.Card.{cardOf}
-use Rattle.card.specs.Modes.{blockBytes, definedMode}
-use Rattle.card.specs.Entries.{readCard, readFields, writeCard}
+use Rattle.card.specs.Modes.{blockBytes, definedMode, single}
+use Rattle.card.specs.Entries.{readCard, readFields}
+use Rattle.written_card.specs.Entries.{writeCard, inVersion, moveCard}
 use Rattle.printed_card.specs.Text.{textCard}
 use Rattle.constellation.specs.Entries.{mapOutcome}
 use Rattle.slicing.specs.declared.Received.{Received}
@@ -44,6 +46,7 @@ Kept lent o = (number (o .report) ≡ 0 → ⊥) → o .out ≡ lent
 pub record Keeps : Type 0 where
   pub card-read : (bytes fields : List ℕ) → Kept fields (readFields bytes fields)
   pub card-write : (c : Card) (out : List ℕ) → Kept out (writeCard c out)
+  pub card-move : (bytes : List ℕ) (version : ℕ) (out : List ℕ) → Kept out (moveCard bytes version out)
   pub card-text : (bytes out : List ℕ) → Kept out (textCard bytes out)
   pub map : (modulation : ℕ) (bits : List ℕ) (point : List Float) → Kept point (mapOutcome modulation bits point)
   pub slice : (modulation : ℕ) (received : Received) (out : List ℕ) → Kept out (sliceOutcome modulation received out)
@@ -84,14 +87,33 @@ PayloadCleanReturn =
     → (payloadRead card (payloadMade card block out) back ≡ record { report = done (blockBytes (cardOf card .kind)); out = block ++ drop (blockBytes (cardOf card .kind)) back })
     × (tabulate (itemsOf (layoutOfCard card)) (throughPoints (cardOf card .modulation) (λ n. getD (payloadMade card block out) n 0)) ≡ payloadMade card block out)
 
--- A card that is read is written as the same bytes, and fields that are written are read again, with all 64 bits of the serial.
+-- A card that is read, of either version, is written as the same bytes, and fields that are written are read again, with all 64 bits of the
+-- serial.
 abbrev pub CardWritten : Type 0
 CardWritten =
-    (bytes : List ℕ) → ((i : ℕ) → getD bytes i 0 < 256) → (c : Card) → readCard bytes ≡ done c → (out : List ℕ) → 11 ≤ length out
-    → (writeCard c out .report ≡ done 11) × (writeCard c out .out ≡ bytes ++ drop 11 out)
+    (bytes : List ℕ) → ((i : ℕ) → getD bytes i 0 < 256) → (c : Card) → readCard bytes ≡ done c → (out : List ℕ) → length bytes ≤ length out
+    → writeCard c out ≡ record { report = done (length bytes); out = bytes ++ drop (length bytes) out }
 
 abbrev pub CardReadAgain : Type 0
-CardReadAgain = (c : Card) → c .serial < 2 ^ 64 → (out : List ℕ) → writeCard c out .report ≡ done 11 → readCard (take 11 (writeCard c out .out)) ≡ done c
+CardReadAgain = (c : Card) → c .serial < 2 ^ 64 → (out : List ℕ) (n : ℕ) → writeCard c out .report ≡ done n → readCard (take n (writeCard c out .out)) ≡ done c
+
+-- What moving does to a card that is read: one of version 1 moves to version 2 with its other fields, one block and one copy; one of version
+-- 2 moves back exactly where it says one and one, and is 11 otherwise; there and back gives the same bytes, whichever version it has and is
+-- moved to; and one of the version asked for comes back byte for byte.
+pub record CardMoves (bytes : List ℕ) (c : Card) : Type 0 where
+  pub moves-up : c .version ≡ 1 → (out : List ℕ) → 12 ≤ length out
+      → (moveCard bytes 2 out .report ≡ done 12) × (readCard (take 12 (moveCard bytes 2 out .out)) ≡ done (inVersion 2 c)) × (c .blocks ≡ 1) × (c .copies ≡ 1)
+  pub moves-back : c .version ≡ 2 → single c ≡ true → (out : List ℕ) → 11 ≤ length out
+      → (moveCard bytes 1 out .report ≡ done 11) × (readCard (take 11 (moveCard bytes 1 out .out)) ≡ done (inVersion 1 c))
+  pub back-only-single : (out : List ℕ) (n : ℕ) → moveCard bytes 1 out .report ≡ done n → single c ≡ true
+  pub stays : single c ≡ false → (out : List ℕ) → 11 ≤ length out → moveCard bytes 1 out ≡ record { report = refusal Counts; out = out }
+  pub there-and-back : (version : ℕ) (out : List ℕ) (n : ℕ) → moveCard bytes version out .report ≡ done n → (back : List ℕ) → length bytes ≤ length back
+      → moveCard (take n (moveCard bytes version out .out)) (c .version) back ≡ record { report = done (length bytes); out = bytes ++ drop (length bytes) back }
+  pub same-version : (out : List ℕ) → length bytes ≤ length out
+      → moveCard bytes (c .version) out ≡ record { report = done (length bytes); out = bytes ++ drop (length bytes) out }
+
+abbrev pub CardMoved : Type 0
+CardMoved = (bytes : List ℕ) → ((i : ℕ) → getD bytes i 0 < 256) → (c : Card) → readCard bytes ≡ done c → CardMoves bytes c
 
 -- ---- Demand 3: how much damage a frame control survives
 

@@ -14,20 +14,7 @@ use Rattle.bits.specs.Ranges.{allBelow}
 use Rattle.refusal.specs.Report.{Report, number, values}
 use Rattle.record.specs.declared.Record.{Record}
 use Rattle.record.specs.declared.Given.{Given}
-use Rattle.record.specs.Expected.{bigEndian, holds, compared}
-
--- ---- numbers of some bytes
-
--- a number of fewer than eight bytes leaves room for one more
-pub fewer : (k n x : ℕ) → k < n → n ≤ 8 → x < 256 ^ k → x < 72057594037927936
-fewer k n x h m l = let most : k ≤ 7 = omega arith in lt-of-lt-of-le l (pow-le-pow-right (omega arith) most)
-
--- one byte more
-pub byte-lt : (k x b : ℕ) → x < 256 ^ k → b < 256 → x * 256 + b < 256 ^ (k + 1)
-byte-lt k x b h l = subst (λ (p : ℕ). x * 256 + b < p) (sym (ap (λ (m : ℕ). 256 ^ m) (add-one k) ∙ pow-suc 256 k)) (omega arith)
-
-pub byte-next : (s : List ℕ) (at k x : ℕ) → x ≡ bigEndian at k s → x * 256 + getD s (at + k) 0 ≡ bigEndian at (k + 1) s
-byte-next s at k x e = ap (λ (y : ℕ). y * 256 + getD s (at + k) 0) e ∙ ap (λ (m : ℕ). bigEndian at m s) (sym (add-one k))
+use Rattle.record.specs.Expected.{holds, compared}
 
 -- ---- outputs
 

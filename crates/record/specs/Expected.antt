@@ -5,22 +5,18 @@ use Prim.Native.Nat.{ℕ, zero, suc, _+_, _*_, _/_}
 use lib.Dec.{eqb, leb, ltb}
 use lib.Ieee.{Float, nan, eq, toBits, binary64}
 use lib.ListN.{length, getD, replicate}
+use Rattle.bits.specs.Bits.{field}
 use Rattle.bits.specs.Ranges.{allBelow}
 use Rattle.refusal.specs.Report.{Report, number, values}
 use Rattle.record.specs.declared.Record.{Record}
 use Rattle.record.specs.declared.Given.{Given}
-
--- the number in n bytes from `at` on, the highest byte first
-abbrev pub bigEndian : ℕ → ℕ → List ℕ → ℕ
-bigEndian at zero bytes = 0
-bigEndian at (suc n) bytes = bigEndian at n bytes * 256 + getD bytes (at + n) 0
 
 -- byte i of some bytes, and the word of eight from `at` on; of an untouched output beyond them
 abbrev pub byteAt : List ℕ → ℕ → ℕ
 byteAt bytes i = cond (ltb i (length bytes)) (getD bytes i 0) 165
 
 abbrev pub wordAt : List ℕ → ℕ → ℕ
-wordAt bytes at = cond (ltb (length bytes) (at + 8)) 11936128518282651045 (bigEndian at 8 bytes)
+wordAt bytes at = cond (ltb (length bytes) (at + 8)) 11936128518282651045 (field bytes (8 * at) 64)
 
 -- ten thousand untouched elements, the most of an output
 unfoldable pub most : {A : Type 0} → A → List A

@@ -9,7 +9,7 @@ ghost use lib.Dec.{eqb};
 ghost use lib.Ieee.{nanBits, ofBits, binary64};
 ghost use lib.ListN.{length, take};
 ghost use Rattle.refusal.specs.Report.{answer};
-ghost use Rattle.record.specs.Expected.{bigEndian, byteAt, most, wordAt, hasBits, sameByte, sameWord, sameFloat, holdsBytes, holdsWords, holdsFloats, compared as comparedWith};
+ghost use Rattle.record.specs.Expected.{byteAt, most, wordAt, hasBits, sameByte, sameWord, sameFloat, holdsBytes, holdsWords, holdsFloats, compared as comparedWith};
 
 // What each byte of an output is before a call, and eight of them.
 pub const UNTOUCHED: u8 = 0xA5;
@@ -42,20 +42,6 @@ pub fn start(s: &[u8], n: u64) -> &[u8]
     if count < s.len() { &s[..count] } else { s }
 }
 
-// The number in n bytes from `at` on, the highest byte first.
-pub fn number_at(s: &[u8], at: usize, n: usize) -> u64
-    requires { ⌜ (n ≤ 8) × (at + n ≤ length (now s)) ⌝ }
-    ensures { λ r. ⌜ r ≡ bigEndian at n (now (s .entry)) ⌝ }
-{
-    let mut number: u64 = 0;
-    let mut k: usize = 0;
-    while k < n {
-        number = number * 256 + s[at + k] as u64;
-        k += 1;
-    }
-    number
-}
-
 // Byte i of some bytes, and of an untouched output beyond them.
 pub fn byte_at(s: &[u8], i: usize) -> u8
     ensures { λ r. ⌜ r ≡ byteAt (now (s .entry)) i ⌝ }
@@ -73,7 +59,7 @@ pub fn word_at(s: &[u8], at: usize) -> u64
     if s.len() - 8 < at {
         return UNTOUCHED_WORD;
     }
-    number_at(s, at, 8)
+    bits::number_at(s, at, 8)
 }
 
 // Whether some bits are a NaN's.

@@ -7,7 +7,8 @@ use lib.Ieee.{ofBits, binary64}
 use lib.ListN.{take}
 use Rattle.refusal.specs.Outcome.{Outcome}
 use Rattle.card.specs.declared.Card.{Card}
-use Rattle.card.specs.Entries.{readFields, writeCard}
+use Rattle.card.specs.Entries.{readFields}
+use Rattle.written_card.specs.Entries.{writeCard, moveCard}
 use Rattle.printed_card.specs.Text.{textCard}
 use Rattle.constellation.specs.Entries.{mapOutcome}
 use Rattle.slicing.specs.Entries.{receivedOf, sliceOutcome}
@@ -29,6 +30,8 @@ cardIn words =
       taps = wordAt words 40;
       spare = wordAt words 48;
       serial = wordAt words 56;
+      blocks = wordAt words 64;
+      copies = wordAt words 72;
     }
 
 -- slicing: the modulation, whether the carrier was heard, and the bits of both coordinates
@@ -45,7 +48,8 @@ bytesOutcome call card input out =
     (cond (eqb call 2) (payloadSend card input out)
     (cond (eqb call 3) (payloadRead card input out)
     (cond (eqb call 5) (textCard card out)
-    (cond (eqb call 8) (writeCard (cardIn card) out) (sliceOf card out))))))
+    (cond (eqb call 8) (writeCard (cardIn card) out)
+    (cond (eqb call 9) (moveCard card (wordAt input 0) out) (sliceOf card out)))))))
 
 -- an outcome compared with what a record expects, the output by a test
 abbrev pub judged : {B : Type 0} → Record → Outcome ℕ B → (B → Bool) → Given

@@ -1,8 +1,9 @@
 // The calls of the records that `vectors` runs: each is made on an untouched output, and compared with what its record expects.
 //
-// The call is 0 fc_send, 1 fc_read, 2 payload_send, 3 payload_read, 4 card_read, 5 card_text, 6 map, 7 slice or 8 card_write. In a map's
-// record the card is the modulation; in a slice's it is the modulation, whether the carrier was heard, and the bits of both coordinates;
-// in a card_write's it is the eight fields, eight bytes each.
+// The call is 0 fc_send, 1 fc_read, 2 payload_send, 3 payload_read, 4 card_read, 5 card_text, 6 map, 7 slice, 8 card_write or 9
+// card_move. In a map's record the card is the modulation; in a slice's it is the modulation, whether the carrier was heard, and the bits
+// of both coordinates; in a card_write's it is the ten fields, eight bytes each. In a card_move's the input is the version asked for, in
+// eight bytes.
 //
 // Internal: nothing here is a public entry.
 use card::Card;
@@ -30,6 +31,8 @@ fn card_in(words: &[u8]) -> Card
         taps: record::word_at(words, 40),
         spare: record::word_at(words, 48),
         serial: record::word_at(words, 56),
+        blocks: record::word_at(words, 64),
+        copies: record::word_at(words, 72),
     }
 }
 
@@ -56,7 +59,8 @@ fn call(call: u64, card: &[u8], input: &[u8], out: &mut [u8]) -> Answer
         2 => payload::send(card, input, out),
         3 => payload::read(card, input, out),
         5 => printed_card::card_text(card, out),
-        8 => card::write_card(card_in(card), out),
+        8 => written_card::write_card(card_in(card), out),
+        9 => written_card::move_card(card, record::word_at(input, 0), out),
         _ => slice(card, out),
     }
 }

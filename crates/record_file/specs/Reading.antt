@@ -8,9 +8,9 @@ use Rattle.record_file.specs.declared.Number.the-variants as number
 use Rattle.record_file.specs.declared.Next.{Next}
 use Rattle.record_file.specs.declared.Next.the-variants as next
 
--- a card has the length that its call has: a map's one byte, a slice's eighteen, a card_write's 64; that of an entry may have any
+-- a card has the length that its call has: a map's one byte, a slice's eighteen, a card_write's 80; that of an entry may have any
 abbrev pub serves : ℕ → ℕ → Bool
-serves call n = cond (eqb call 6) (eqb n 1) (cond (eqb call 7) (eqb n 18) (cond (eqb call 8) (eqb n 64) (ltb call 6)))
+serves call n = cond (eqb call 6) (eqb n 1) (cond (eqb call 7) (eqb n 18) (cond (eqb call 8) (eqb n 80) (cond (eqb call 9) true (ltb call 6))))
 
 -- a number that was read is at most so much
 abbrev pub AtMost : ℕ → Number → Type 0

@@ -9,14 +9,15 @@ ghost use mathlib.Core.Path.{_≡_};
 ghost use Rattle.constellation.specs.Entries.{mapOutcome};
 ghost use Rattle.slicing.specs.Entries.{receivedOf, sliceOutcome};
 ghost use Rattle.bands.specs.Units.{placeOf, subCarrierOf};
-ghost use Rattle.card.specs.Entries.{readFields, writeCard};
+ghost use Rattle.card.specs.Entries.{readFields};
+ghost use Rattle.written_card.specs.Entries.{writeCard, moveCard};
 ghost use Rattle.printed_card.specs.Text.{textCard};
 ghost use Rattle.frame_control.specs.Entries.{send as frameSend, read as frameRead};
 ghost use Rattle.payload.specs.Entries.{send as payloadSend, read as payloadRead};
 ghost use Rattle.tester.specs.Call.{Reported, Returned, interfaceVersion};
 
 // The version of this interface.
-const VERSION: u32 = 10200;
+const VERSION: u32 = 20000;
 
 #[no_mangle]
 pub extern "C" fn hplc_version() -> u32
@@ -25,7 +26,7 @@ pub extern "C" fn hplc_version() -> u32
     VERSION
 }
 
-// The fields of a card: version, band, kind, rate, modulation, taps, spare, serial.
+// The fields of a card: version, band, kind, rate, modulation, taps, spare, serial, blocks, copies.
 #[no_mangle]
 pub extern "C" fn hplc_card_read(card: &[u8], fields: &mut [u64], value: &mut [u64; 2]) -> u32
     ensures { λ n. ⌜ Returned (readFields (now (card .entry)) (now (fields .entry))) n (now (value .exit)) (now (fields .exit)) ⌝ }
@@ -45,10 +46,12 @@ pub extern "C" fn hplc_card_write(
     taps: u64,
     spare: u64,
     serial: u64,
+    blocks: u64,
+    copies: u64,
     out: &mut [u8],
     value: &mut [u64; 2],
 ) -> u32
-    ensures { λ n. ⌜ Returned (writeCard (record { version = version; band = band; kind = kind; rate = rate; modulation = modulation; taps = taps; spare = spare; serial = serial }) (now (out .entry))) n (now (value .exit)) (now (out .exit)) ⌝ }
+    ensures { λ n. ⌜ Returned (writeCard (record { version = version; band = band; kind = kind; rate = rate; modulation = modulation; taps = taps; spare = spare; serial = serial; blocks = blocks; copies = copies }) (now (out .entry))) n (now (value .exit)) (now (out .exit)) ⌝ }
 {
     let c = Card {
         version,
@@ -59,8 +62,24 @@ pub extern "C" fn hplc_card_write(
         taps,
         spare,
         serial,
+        blocks,
+        copies,
     };
-    let answer = card::write_card(c, out);
+    let answer = written_card::write_card(c, out);
+    refusal::report(answer, value)
+}
+
+// A card in the version asked for.
+#[no_mangle]
+pub extern "C" fn hplc_card_move(
+    card: &[u8],
+    version: u64,
+    out: &mut [u8],
+    value: &mut [u64; 2],
+) -> u32
+    ensures { λ n. ⌜ Returned (moveCard (now (card .entry)) version (now (out .entry))) n (now (value .exit)) (now (out .exit)) ⌝ }
+{
+    let answer = written_card::move_card(card, version, out);
     refusal::report(answer, value)
 }
 

@@ -16,11 +16,11 @@ const MOST: usize = 10000;
 const MOST_RECORDS: u64 = 1000000;
 
 // One more of a call, and of all, which the last place counts. No count comes near to wrapping.
-fn count(counts: &mut [u64; 10], call: u64) {
-    if call < 9 {
+fn count(counts: &mut [u64; 11], call: u64) {
+    if call < 10 {
         let k = call as usize;
         counts[k] = std::num::wrapping_add_u64(counts[k], 1);
-        counts[9] = std::num::wrapping_add_u64(counts[9], 1);
+        counts[10] = std::num::wrapping_add_u64(counts[10], 1);
     }
 }
 
@@ -33,8 +33,8 @@ fn judge(
     card: &[u8],
     input: &[u8],
     expected: &[u8],
-    records: &mut [u64; 10],
-    mismatches: &mut [u64; 10],
+    records: &mut [u64; 11],
+    mismatches: &mut [u64; 11],
 ) {
     let given = record_calls::run(
         r,
@@ -62,11 +62,11 @@ fn run_record(
     k: u64,
     input: &mut [u8],
     expected: &mut [u8],
-    records: &mut [u64; 10],
-    mismatches: &mut [u64; 10],
+    records: &mut [u64; 11],
+    mismatches: &mut [u64; 11],
 ) -> bool {
     let mut label = [0u8; 80];
-    let mut card = [0u8; 64];
+    let mut card = [0u8; 80];
     match record_file::read_record(fd, &mut label, &mut card, input, expected) {
         Next::Of(r, lengths) => {
             judge(
@@ -91,7 +91,7 @@ fn run_record(
 }
 
 // Runs the records of a file.
-fn run(fd: i32, records: &mut [u64; 10], mismatches: &mut [u64; 10]) {
+fn run(fd: i32, records: &mut [u64; 11], mismatches: &mut [u64; 11]) {
     let mut input = [0u8; MOST];
     let mut expected = [0u8; MOST];
     let mut k: u64 = 0;
@@ -111,8 +111,8 @@ fn main() {
         os::fail(path);
         return;
     }
-    let mut records = [0u64; 10];
-    let mut mismatches = [0u64; 10];
+    let mut records = [0u64; 11];
+    let mut mismatches = [0u64; 11];
     run(fd, &mut records, &mut mismatches);
     libc::close(fd);
     record_file::put_all(&records, &mismatches);

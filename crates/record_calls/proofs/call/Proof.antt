@@ -26,6 +26,12 @@ card-in-requires c κs = search needs
 write-card-requires : tie.Need-write-card-requires
 write-card-requires c κs = search needs
 
+word-at-requires : tie.Need-word-at-requires
+word-at-requires c κs = search needs
+
+move-card-requires : tie.Need-move-card-requires
+move-card-requires c κs = search needs
+
 slice-requires : tie.Need-slice-requires
 slice-requires c κs = search needs
 
@@ -79,9 +85,18 @@ same-length-7 c = search needs
 returns-7 : tie.Need-returns-7
 unfolding bytesOutcome
 returns-7 c =
+    let w = c .before .before in
+    simp (w .before .before .before .match .keys7, ← w .before .before .word-at .ensures) (w .move-card .ensures)
+
+same-length-8 : tie.Need-same-length-8
+same-length-8 c = search needs
+
+returns-8 : tie.Need-returns-8
+unfolding bytesOutcome
+returns-8 c =
     let no = c .before .before .before .before .match .rest in
     simp
-    (ne-eqb _ _ (no .0 .0 .0 .0 .0 .1), ne-eqb _ _ (no .0 .0 .0 .0 .1), ne-eqb _ _ (no .0 .0 .0 .1), ne-eqb _ _ (no .0 .0 .1), ne-eqb _ _ (no .0 .1), ne-eqb _ _ (no .1))
+    (ne-eqb _ _ (no .0 .0 .0 .0 .0 .0 .1), ne-eqb _ _ (no .0 .0 .0 .0 .0 .1), ne-eqb _ _ (no .0 .0 .0 .0 .1), ne-eqb _ _ (no .0 .0 .0 .1), ne-eqb _ _ (no .0 .0 .1), ne-eqb _ _ (no .0 .1), ne-eqb _ _ (no .1))
     (c .before .before .slice .ensures)
 
 pub call-spec : {M : Type 1} → statement M
@@ -95,6 +110,8 @@ call-spec =
     card-text-requires
     card-in-requires
     write-card-requires
+    word-at-requires
+    move-card-requires
     slice-requires
     same-length
     returns
@@ -109,4 +126,6 @@ call-spec =
     same-length-6
     returns-6
     same-length-7
-    returns-7)
+    returns-7
+    same-length-8
+    returns-8)

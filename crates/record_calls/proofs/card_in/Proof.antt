@@ -28,6 +28,12 @@ word-at-requires-7 c κs = search needs
 word-at-requires-8 : tie.Need-word-at-requires-8
 word-at-requires-8 c κs = search needs
 
+word-at-requires-9 : tie.Need-word-at-requires-9
+word-at-requires-9 c κs = search needs
+
+word-at-requires-10 : tie.Need-word-at-requires-10
+word-at-requires-10 c κs = search needs
+
 returns : tie.Need-returns
 unfolding cardIn
 returns c = cc
@@ -44,4 +50,6 @@ card-in-spec =
     word-at-requires-6
     word-at-requires-7
     word-at-requires-8
+    word-at-requires-9
+    word-at-requires-10
     returns)

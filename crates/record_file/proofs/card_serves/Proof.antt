@@ -13,7 +13,12 @@ returns-3 : tie.Need-returns-3
 returns-3 c = simp (c .match .keys3)
 
 returns-4 : tie.Need-returns-4
-returns-4 c = let no = c .match .rest in simp (ne-eqb _ _ (no .0 .0 .1), ne-eqb _ _ (no .0 .1), ne-eqb _ _ (no .1))
+returns-4 c = simp (c .match .keys4)
+
+returns-5 : tie.Need-returns-5
+returns-5 c =
+    let no = c .match .rest in
+    simp (ne-eqb _ _ (no .0 .0 .0 .1), ne-eqb _ _ (no .0 .0 .1), ne-eqb _ _ (no .0 .1), ne-eqb _ _ (no .1))
 
 pub card-serves-spec : {M : Type 1} → statement M
-card-serves-spec = tie.close (tie.spec returns returns-2 returns-3 returns-4)
+card-serves-spec = tie.close (tie.spec returns returns-2 returns-3 returns-4 returns-5)
