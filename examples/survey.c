@@ -33,14 +33,18 @@ int main(void)
 {
     static uint8_t items[HPLC_FC_ITEMS_BAND_0];
     const uint8_t word[HPLC_FC_BYTES] = "a pump house, 1";
-    uint8_t card[HPLC_CARD_BYTES];
+    uint8_t first[HPLC_CARD_BYTES];
+    uint8_t card[HPLC_CARD_2_BYTES];
     uint8_t back[HPLC_FC_BYTES];
     uint64_t value[2];
     unsigned symbol, place, lost = 0;
 
     if (hplc_version() != HPLC_VERSION)
         return 1;
-    if (hplc_card_write(1, 0, 0, 0, 1, 0x447, 0, 9007199254740993u, card, sizeof card, value) != HPLC_DONE)
+    if (hplc_card_write(1, 0, 0, 0, 1, 0x447, 0, 9007199254740993u, 1, 1, first, sizeof first, value) != HPLC_DONE)
+        return 1;
+    /* The same card in version 2. Every call takes both. */
+    if (hplc_card_move(first, sizeof first, 2, card, sizeof card, value) != HPLC_DONE)
         return 1;
     if (hplc_fc_send(card, sizeof card, word, sizeof word, items, sizeof items, value) != HPLC_DONE)
         return 1;

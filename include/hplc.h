@@ -33,8 +33,8 @@ extern "C" {
 #endif
 
 /* The version of this interface. hplc_version() gives that of the library: the same number where both belong together. */
-#define HPLC_VERSION_MAJOR 1
-#define HPLC_VERSION_MINOR 2
+#define HPLC_VERSION_MAJOR 2
+#define HPLC_VERSION_MINOR 0
 #define HPLC_VERSION_PATCH 0
 #define HPLC_VERSION (HPLC_VERSION_MAJOR * 10000 + HPLC_VERSION_MINOR * 100 + HPLC_VERSION_PATCH)
 
@@ -42,10 +42,12 @@ extern "C" {
 enum hplc_number {
     /* It is done; the count of elements written, or the number that was asked for. */
     HPLC_DONE = 0,
-    /* The card is not 11 bytes; its length. */
+    /* The card is neither 11 nor 12 bytes; its length. */
     HPLC_REFUSED_CARD_LENGTH = 1,
-    /* The card's version is not 1, or its spare bit is not 0; 0. */
+    /* The version is neither 1 nor 2, the spare bit is not 0, or the padding on 12 bytes of version 2 is not 0; 0. */
     HPLC_REFUSED_CARD_VERSION = 2,
+    /* The card's version and its length disagree; 0. */
+    HPLC_REFUSED_VERSION_LENGTH = 10,
     /* The mode is not defined, or not served by this call; 0. */
     HPLC_REFUSED_MODE = 3,
     /* The pad is longer than the coded data; the pad. No mode that is defined today gives this. */
@@ -59,13 +61,16 @@ enum hplc_number {
     /* A coded bit has no strict majority of its copies; the lowest such bit. */
     HPLC_REFUSED_MAJORITY = 7,
     /* Parity disagrees; the count of kept parity bits that disagree. */
-    HPLC_REFUSED_PARITY = 8
+    HPLC_REFUSED_PARITY = 8,
+    /* Version 1 cannot say the block count and the copy count; 0. No card that is defined today gives this. */
+    HPLC_REFUSED_COUNTS = 11
 };
 
 /* Lengths. Those of items are proved to be the lengths that the calls need, and HPLC_PAYLOAD_ITEMS_MAX to be the most of any mode. */
 #define HPLC_CARD_BYTES 11
-#define HPLC_CARD_FIELDS 8
-#define HPLC_CARD_TEXT_MAX 192
+#define HPLC_CARD_2_BYTES 12
+#define HPLC_CARD_FIELDS 10
+#define HPLC_CARD_TEXT_MAX 108
 #define HPLC_FC_BYTES 16
 #define HPLC_FC_ITEMS_BAND_0 3288
 #define HPLC_FC_ITEMS_BAND_1 3144
@@ -90,17 +95,24 @@ enum hplc_number {
 uint32_t hplc_version(void);
 
 /*
- * The fields of a job card: version, band, kind, rate, modulation, taps, spare, serial, in this order into `fields`.
- * Refusals 1, 2, 3, and 5 with HPLC_CARD_FIELDS.
+ * The fields of a job card: version, band, kind, rate, modulation, taps, spare, serial, blocks, copies, in this order into `fields`. Blocks
+ * and copies are counts; a card of version 1 has one of each. Refusals 1, 2, 10, 3, and 5 with HPLC_CARD_FIELDS.
  */
 uint32_t hplc_card_read(const uint8_t *card, size_t card_len, uint64_t *fields, size_t fields_len, uint64_t value[2]);
 
 /*
- * A job card from its fields: HPLC_CARD_BYTES into `out`. A field that does not fit its bits is refused by 2 (version, spare) or 3.
- * Refusals 2, 3, 5.
+ * A job card from its fields: HPLC_CARD_BYTES of version 1 or HPLC_CARD_2_BYTES of version 2 into `out`. A field that does not fit its bits
+ * is refused by 2 (version, spare) or 3, and so far more than one block or one copy by 3. Refusals 2, 3, 5 with the version's length, 11.
  */
 uint32_t hplc_card_write(uint64_t version, uint64_t band, uint64_t kind, uint64_t rate, uint64_t modulation, uint64_t taps,
-                         uint64_t spare, uint64_t serial, uint8_t *out, size_t out_len, uint64_t value[2]);
+                         uint64_t spare, uint64_t serial, uint64_t blocks, uint64_t copies, uint8_t *out, size_t out_len,
+                         uint64_t value[2]);
+
+/*
+ * A job card moved to version 1 or 2 with its other fields: HPLC_CARD_BYTES or HPLC_CARD_2_BYTES into `out`. A card of that version comes
+ * back as it is. Refusals 1, 2 for the card or for any other version asked for, 10, 3, 5 with the length of the version asked for, 11.
+ */
+uint32_t hplc_card_move(const uint8_t *card, size_t card_len, uint64_t version, uint8_t *out, size_t out_len, uint64_t value[2]);
 
 /*
  * The printed card, or `refused` and the number, as text without a closing zero into `out`; at most HPLC_CARD_TEXT_MAX bytes. The only
@@ -132,27 +144,27 @@ uint32_t hplc_sub_carrier_of_place(uint64_t band, uint64_t place, uint64_t value
 
 /*
  * The items of a frame control: HPLC_FC_BYTES in, HPLC_FC_ITEMS_BAND_0 to HPLC_FC_ITEMS_BAND_3 items out by the card's band, by symbol,
- * place, I then Q. Refusals 1, 2, 3 (a payload card too), 4, 5.
+ * place, I then Q. Refusals 1, 2, 10, 3 (a payload card too), 4, 5.
  */
 uint32_t hplc_fc_send(const uint8_t *card, size_t card_len, const uint8_t *word, size_t word_len, uint8_t *items, size_t items_len,
                       uint64_t value[2]);
 
 /*
  * The word of a frame control from all its received items: HPLC_FC_BYTES into `word`. Where twice the altered plus the lost carriers is
- * below the band's limit, 12, 12, 7 and 3 on bands 0 to 3, it is the word that was sent. Refusals 1, 2, 3 (a payload card too), 4, 5, 6,
- * 7, 8.
+ * below the band's limit, 12, 12, 7 and 3 on bands 0 to 3, it is the word that was sent. Refusals 1, 2, 10, 3 (a payload card too), 4, 5,
+ * 6, 7, 8.
  */
 uint32_t hplc_fc_read(const uint8_t *card, size_t card_len, const uint8_t *items, size_t items_len, uint8_t *word, size_t word_len,
                       uint64_t value[2]);
 
 /*
  * The items of a payload block of 72, 136, 264 or 520 bytes by the card's kind: 1, 2 or 4 items a carrier by its modulation, by
- * symbol, place and bit; at most HPLC_PAYLOAD_ITEMS_MAX. Refusals 1, 2, 3 (a frame-control card too), 9, 4, 5.
+ * symbol, place and bit; at most HPLC_PAYLOAD_ITEMS_MAX. Refusals 1, 2, 10, 3 (a frame-control card too), 9, 4, 5.
  */
 uint32_t hplc_payload_send(const uint8_t *card, size_t card_len, const uint8_t *block, size_t block_len, uint8_t *items,
                            size_t items_len, uint64_t value[2]);
 
-/* The block of a payload from all its received items. Refusals 1, 2, 3 (a frame-control card too), 9, 4, 5, 6, 7, 8. */
+/* The block of a payload from all its received items. Refusals 1, 2, 10, 3 (a frame-control card too), 9, 4, 5, 6, 7, 8. */
 uint32_t hplc_payload_read(const uint8_t *card, size_t card_len, const uint8_t *items, size_t items_len, uint8_t *block,
                            size_t block_len, uint64_t value[2]);
 

@@ -12,12 +12,18 @@ cd "$work"
 runs=0
 : > input
 
-# card BAND KIND RATE MODULATION TAPS [BITS]: a card of version 1, with some of its first 24 bits turned.
+# bytes NUMBER..: a byte of each number.
+bytes() { printf '%b' "$(printf '\\x%02x' "$@")"; }
+
+# card BAND KIND RATE MODULATION TAPS [BITS [FOURTH]]: a card of version 1, with some of its first 24 bits turned; with a fourth byte
+# before the serial it has twelve bytes.
 card() {
   local bits=$(((1 << 20 | $1 << 18 | $2 << 15 | $3 << 14 | $4 << 12 | $5 << 1) ^ ${6-0}))
-  printf '%b' "$(printf '\\x%02x\\x%02x\\x%02x' $((bits >> 16)) $((bits >> 8 & 255)) $((bits & 255)))"
-  printf '\001\002\003\004\005\006\007\010'
+  bytes $((bits >> 16)) $((bits >> 8 & 255)) $((bits & 255)) ${7-} 1 2 3 4 5 6 7 8
 }
+
+# The bits by which version 2 differs from version 1.
+second=$((3 << 20))
 
 # core PROGRAM ARGUMENT..: runs a program, its lines on standard error go to `told`.
 core() {
@@ -51,6 +57,12 @@ mode() {
   same decode card lost
   tr '\000\001' '\001\000' < items > inverted
   same decode card inverted
+  card "$2" "$3" "$4" "$5" 1095 "$second" 0 > card
+  cp card input
+  same print_card
+  same encode card block
+  cmp written items
+  same decode card items
 }
 
 sizes=(16 72 136 264 520)
@@ -68,7 +80,7 @@ done
 card 0 0 0 1 1095 > card
 seq 1 400 | head -c 16 > block
 mkdir folder
-head -c 12 /dev/zero > long
+head -c 13 /dev/zero > long
 for file in missing folder /dev/null long; do
   for program in encode decode; do
     for files in "$file block" "card $file"; do
@@ -82,7 +94,7 @@ for file in missing folder /dev/null long; do
   done
 done
 
-# Cards that are too short or too long, of every mode that fits its bits, with another version and with a spare bit.
+# Cards of any length, of every mode that fits its bits, with another version and with a spare bit.
 for length in 0 1 10 12 13 16 17 40; do
   head -c "$length" /dev/zero > input
   same print_card
@@ -93,10 +105,20 @@ for kind in 0 1 2 3 4 5 6 7; do
     same print_card
   done
 done
-for turned in 1 $((1 << 20)) $((3 << 20)) $((14 << 20)) $((2 << 18)) $((3 << 18)); do
+for turned in 0 1 $((1 << 20)) $second $((14 << 20)) $((2 << 18)) $((3 << 18)) $((second | 1)); do
   card 0 4 1 1 0 "$turned" > input
   same print_card
+  card 0 4 1 1 0 "$turned" 7 > input
+  same print_card
 done
+
+# Version 2 with every fourth byte, and with one byte more.
+for fourth in {0..255}; do
+  card 0 4 1 1 0 "$second" "$fourth" > input
+  same print_card
+done
+bytes 0 >> input
+same print_card
 
 # How to call a program: on standard output where it was asked for, on standard error where it was called in another way.
 for call in 'encode -h' 'encode --help' 'decode -h' 'decode --help' 'print_card -h' 'print_card --help'; do

@@ -1,6 +1,6 @@
 /*
  * How much stack each call takes: the call runs on a stack of its own that was filled with a pattern, and what lost the pattern is
- * counted, over every defined mode. Fails where a call takes more than include/hplc.h states, or where that states a good deal more.
+ * counted, over every defined mode and both versions of a card. Fails where a call takes more than include/hplc.h states, or where that states a good deal more.
  */
 #include <stdio.h>
 #include <string.h>
@@ -16,23 +16,26 @@
 static uint8_t stack[STACK];
 static ucontext_t caller, callee;
 
-static uint8_t card[HPLC_CARD_BYTES];
+static uint8_t card[HPLC_CARD_2_BYTES];
 static uint8_t items[HPLC_PAYLOAD_ITEMS_MAX];
 static uint8_t bytes[HPLC_PAYLOAD_BYTES_MAX];
 static uint8_t out[HPLC_PAYLOAD_ITEMS_MAX];
 static uint64_t fields[HPLC_CARD_FIELDS];
 static uint64_t value[2];
 static double point[2];
-static size_t bytes_len, items_len;
+static size_t card_len, bytes_len, items_len;
+static uint64_t version;
 static uint32_t number;
 
 static void nothing(void) {}
 
-static void card_read(void) { number = hplc_card_read(card, sizeof card, fields, HPLC_CARD_FIELDS, value); }
+static void card_read(void) { number = hplc_card_read(card, card_len, fields, HPLC_CARD_FIELDS, value); }
 
-static void card_write(void) { number = hplc_card_write(1, 0, 0, 0, 1, 1095, 0, 7, out, sizeof out, value); }
+static void card_write(void) { number = hplc_card_write(version, 0, 0, 0, 1, 1095, 0, 7, 1, 1, out, sizeof out, value); }
 
-static void card_text(void) { number = hplc_card_text(card, sizeof card, out, sizeof out, value); }
+static void card_move(void) { number = hplc_card_move(card, card_len, 3 - version, out, sizeof out, value); }
+
+static void card_text(void) { number = hplc_card_text(card, card_len, out, sizeof out, value); }
 
 static void map(void) { number = hplc_map(2, (const uint8_t *)"\0\1\0\1", 4, point, 2, value); }
 
@@ -42,13 +45,13 @@ static void place(void) { number = hplc_place_of_sub_carrier(0, 81, value); }
 
 static void sub_carrier(void) { number = hplc_sub_carrier_of_place(0, 1, value); }
 
-static void fc_send(void) { number = hplc_fc_send(card, sizeof card, bytes, bytes_len, out, sizeof out, value); }
+static void fc_send(void) { number = hplc_fc_send(card, card_len, bytes, bytes_len, out, sizeof out, value); }
 
-static void fc_read(void) { number = hplc_fc_read(card, sizeof card, items, items_len, out, sizeof out, value); }
+static void fc_read(void) { number = hplc_fc_read(card, card_len, items, items_len, out, sizeof out, value); }
 
-static void payload_send(void) { number = hplc_payload_send(card, sizeof card, bytes, bytes_len, out, sizeof out, value); }
+static void payload_send(void) { number = hplc_payload_send(card, card_len, bytes, bytes_len, out, sizeof out, value); }
 
-static void payload_read(void) { number = hplc_payload_read(card, sizeof card, items, items_len, out, sizeof out, value); }
+static void payload_read(void) { number = hplc_payload_read(card, card_len, items, items_len, out, sizeof out, value); }
 
 /* The bytes of its own stack that a call has written to. */
 static size_t touched(void (*call)(void))
@@ -76,6 +79,14 @@ static size_t taken(void (*call)(void))
     return all < empty ? 0 : all - empty;
 }
 
+/* A card of the version that is looked at; whether there is one. */
+static int write_card(unsigned band, unsigned kind, unsigned rate, unsigned modulation)
+{
+    uint32_t n = hplc_card_write(version, band, kind, rate, modulation, 1095, 0, UINT64_MAX, 1, 1, card, sizeof card, value);
+    card_len = (size_t)value[0];
+    return n == HPLC_DONE;
+}
+
 /* The most that sending and reading take, over the modes of some kinds. */
 static void over_modes(unsigned first, unsigned last, void (*send)(void), void (*read)(void), size_t *sent, size_t *back)
 {
@@ -83,8 +94,7 @@ static void over_modes(unsigned first, unsigned last, void (*send)(void), void (
     unsigned mode;
     for (mode = 0; mode < 256; mode++) {
         unsigned band = mode >> 6, kind = mode >> 3 & 7, rate = mode >> 2 & 1, modulation = mode & 3;
-        if (kind < first || kind > last
-            || hplc_card_write(1, band, kind, rate, modulation, 1095, 0, 7, card, sizeof card, value) != HPLC_DONE)
+        if (kind < first || kind > last || !write_card(band, kind, rate, modulation))
             continue;
         bytes_len = sizes[kind];
         *sent = most(*sent, taken(send));
@@ -110,13 +120,16 @@ static void state(const char *name, size_t measured, size_t stated)
 int main(void)
 {
     size_t frame_sent = 0, frame_back = 0, sent = 0, back = 0;
-    size_t cards, points, places;
-    hplc_card_write(1, 0, 4, 1, 1, 1095, 0, 9007199254740993u, card, sizeof card, value);
-    cards = most(most(taken(card_read), taken(card_write)), taken(card_text));
+    size_t cards = 0, points, places;
+    for (version = 1; version <= 2; version++) {
+        write_card(0, 4, 1, 1);
+        cards = most(cards, most(taken(card_read), taken(card_write)));
+        cards = most(cards, most(taken(card_move), taken(card_text)));
+        over_modes(0, 0, fc_send, fc_read, &frame_sent, &frame_back);
+        over_modes(1, 4, payload_send, payload_read, &sent, &back);
+    }
     points = most(taken(map), taken(slice));
     places = most(taken(place), taken(sub_carrier));
-    over_modes(0, 0, fc_send, fc_read, &frame_sent, &frame_back);
-    over_modes(1, 4, payload_send, payload_read, &sent, &back);
     state("cards", cards, HPLC_STACK_CARD);
     state("points and places", most(points, places), HPLC_STACK_POINT);
     state("hplc_fc_send", frame_sent, HPLC_STACK_FC_SEND);

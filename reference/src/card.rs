@@ -1,29 +1,77 @@
-//! The job card (01, "The job card"): eleven bytes, bit-packed, most significant first.
+//! The job card (01, "The job card"; 02, T-03; D26): bit-packed, most significant first.
 //!
 //! The first three bytes hold, from the left, version 4 bits, band 2, kind 3, rate 1,
-//! modulation 2, taps 11 and spare 1. The last eight bytes hold the serial.
+//! modulation 2, taps 11 and spare 1. The last eight bytes hold the serial. That is all of a card
+//! of version 1. Version 2 has a byte between them: blocks less one 2 bits, copy code 3 and
+//! padding 3.
 
 use crate::carriers::BANDS;
-use crate::{number, Report};
+use crate::{big_endian, number, Report};
 
-/// Length of a card in bytes.
-pub const CARD_BYTES: usize = 11;
+/// The versions of the card. Each has a layout of its own.
+#[derive(Clone, Copy, Debug, PartialEq, Eq)]
+pub enum Version {
+    One = 1,
+    Two = 2,
+}
 
-/// A card that no cause about cards refuses. Its version is 1 and its spare bit is 0.
+impl Version {
+    pub const ALL: [Version; 2] = [Version::One, Version::Two];
+
+    /// The number that the card says.
+    pub const fn number(self) -> u64 {
+        self as u64
+    }
+
+    /// Length of a card in bytes.
+    pub const fn bytes(self) -> usize {
+        match self {
+            Version::One => 11,
+            Version::Two => 12,
+        }
+    }
+
+    pub const fn other(self) -> Version {
+        match self {
+            Version::One => Version::Two,
+            Version::Two => Version::One,
+        }
+    }
+
+    /// The version of a number; 2 where there is none.
+    fn of_number(number: u64) -> Result<Version, Report> {
+        let mut all = Version::ALL.into_iter();
+        all.find(|version| version.number() == number)
+            .ok_or(Report::refused(number::VERSION_SPARE_OR_PADDING, 0))
+    }
+
+    /// The version whose cards have so many bytes; 1 with the length where there is none.
+    fn of_length(length: usize) -> Result<Version, Report> {
+        let mut all = Version::ALL.into_iter();
+        all.find(|version| version.bytes() == length)
+            .ok_or(Report::refused(number::CARD_LENGTH, length as u64))
+    }
+}
+
+/// A card that no cause about cards refuses. Its spare bit is 0. Blocks and copies are counts, one
+/// each on a card of version 1.
 #[derive(Clone, Copy, Debug, PartialEq, Eq)]
 pub struct Card {
+    pub version: Version,
     pub band: u8,
     pub kind: u8,
     pub rate: u8,
     pub modulation: u8,
     pub taps: u16,
     pub serial: u64,
+    pub blocks: u8,
+    pub copies: u8,
 }
 
 impl Card {
     pub const fn fields(&self) -> Fields {
         Fields {
-            version: 1,
+            version: self.version.number(),
             band: self.band as u64,
             kind: self.kind as u64,
             rate: self.rate as u64,
@@ -31,11 +79,14 @@ impl Card {
             taps: self.taps as u64,
             spare: 0,
             serial: self.serial,
+            blocks: self.blocks as u64,
+            copies: self.copies as u64,
         }
     }
 }
 
 /// The fields a writer hands over. Each is wide enough to hold a value that doesn't fit its bits.
+/// Blocks and copies are counts.
 #[derive(Clone, Copy, Debug, PartialEq, Eq)]
 pub struct Fields {
     pub version: u64,
@@ -46,13 +97,15 @@ pub struct Fields {
     pub taps: u64,
     pub spare: u64,
     pub serial: u64,
+    pub blocks: u64,
+    pub copies: u64,
 }
 
 /// How many fields a card has.
-pub const CARD_FIELDS: usize = 8;
+pub const CARD_FIELDS: usize = 10;
 
 impl Fields {
-    /// The fields in the order in which a card holds them.
+    /// The fields in the order of D26: as the first card holds them, then those of the second.
     pub const fn to_array(&self) -> [u64; CARD_FIELDS] {
         [
             self.version,
@@ -63,12 +116,14 @@ impl Fields {
             self.taps,
             self.spare,
             self.serial,
+            self.blocks,
+            self.copies,
         ]
     }
 
     /// The reverse of `to_array`.
     pub const fn from_array(fields: [u64; CARD_FIELDS]) -> Fields {
-        let [version, band, kind, rate, modulation, taps, spare, serial] = fields;
+        let [version, band, kind, rate, modulation, taps, spare, serial, blocks, copies] = fields;
         Fields {
             version,
             band,
@@ -78,8 +133,31 @@ impl Fields {
             taps,
             spare,
             serial,
+            blocks,
+            copies,
         }
     }
+}
+
+/// The copy counts by their codes. Codes 6 and 7 say no count.
+const COPIES: [u64; 6] = [1, 2, 4, 5, 7, 11];
+
+/// The byte that says one block and one copy.
+const ONE_AND_ONE: u8 = 0;
+
+/// The byte of the second card that says so many blocks and copies, with the padding zero; None
+/// where a count doesn't fit its bits.
+fn counts_byte(blocks: u64, copies: u64) -> Option<u8> {
+    // Two bits hold blocks less one.
+    let less_one = blocks.checked_sub(1).filter(|&less_one| less_one < 4)?;
+    let code = COPIES.iter().position(|&count| count == copies)?;
+    Some((less_one as u8) << 6 | (code as u8) << 3)
+}
+
+/// The copies that such a byte says; 0, which is no count of copies, for codes 6 and 7.
+fn copies_of(byte: u8) -> u64 {
+    let code = usize::from(byte >> 3 & 7);
+    COPIES.get(code).copied().unwrap_or(0)
 }
 
 /// "Defined modes": any of the bands; kind 0 to 4; modulation 0 to 2; rate 1 only with kind 4; kind
@@ -93,36 +171,100 @@ fn mode_is_defined(band: u64, kind: u64, rate: u64, modulation: u64) -> bool {
         && (kind != 0 || modulation == 1)
 }
 
-/// The causes about a card's contents, in row order: 2, then 3.
-fn check(fields: &Fields) -> Result<(), Report> {
-    if fields.version != 1 || fields.spare != 0 {
-        return Err(Report::refused(number::VERSION_OR_SPARE, 0));
+/// The most blocks of a payload that are defined, until T-06 defines more.
+const DEFINED_BLOCKS: u64 = 1;
+/// The most copies of a payload that are defined, until T-07 defines more.
+const DEFINED_COPIES: u64 = 1;
+
+/// Whether the counts fit their bits and are defined. Kind 0 always needs one and one.
+fn counts_are_defined(kind: u64, blocks: u64, copies: u64) -> bool {
+    counts_byte(blocks, copies).is_some()
+        && blocks <= DEFINED_BLOCKS
+        && copies <= DEFINED_COPIES
+        && (kind != 0 || (blocks, copies) == (1, 1))
+}
+
+/// The version that fields say: 2 where it is none or the spare bit is not 0.
+fn version_of(fields: &Fields) -> Result<Version, Report> {
+    if fields.spare != 0 {
+        return Err(Report::refused(number::VERSION_SPARE_OR_PADDING, 0));
     }
-    let defined = mode_is_defined(fields.band, fields.kind, fields.rate, fields.modulation);
+    Version::of_number(fields.version)
+}
+
+/// The card that the other fields say: 3 where a mode or a count is not defined, or taps don't fit.
+fn card_of(version: Version, fields: &Fields) -> Result<Card, Report> {
+    let defined = mode_is_defined(fields.band, fields.kind, fields.rate, fields.modulation)
+        && counts_are_defined(fields.kind, fields.blocks, fields.copies);
     if !defined || fields.taps > 2047 {
         return Err(Report::refused(number::MODE, 0));
     }
-    Ok(())
+    Ok(Card {
+        version,
+        band: fields.band as u8,
+        kind: fields.kind as u8,
+        rate: fields.rate as u8,
+        modulation: fields.modulation as u8,
+        taps: fields.taps as u16,
+        serial: fields.serial,
+        blocks: fields.blocks as u8,
+        copies: fields.copies as u8,
+    })
 }
 
-/// Takes the fields out of eleven bytes, whatever they hold.
-fn unpack(card: &[u8; CARD_BYTES]) -> Fields {
-    let [a, b, c, serial @ ..] = *card;
-    let head = u64::from(a) << 16 | u64::from(b) << 8 | u64::from(c);
-    Fields {
-        version: head >> 20,
-        band: head >> 18 & 3,
-        kind: head >> 15 & 7,
-        rate: head >> 14 & 1,
-        modulation: head >> 12 & 3,
-        taps: head >> 1 & 2047,
-        spare: head & 1,
-        serial: u64::from_be_bytes(serial),
+/// What the bytes of a card hold, once nothing of rows 1 and 2 refuses them.
+struct Unpacked {
+    layout: Version,
+    version: Version,
+    fields: Fields,
+}
+
+impl Unpacked {
+    /// Takes the fields out of a card: refused by 1 with its length, and by 2.
+    fn new(card: &[u8]) -> Result<Unpacked, Report> {
+        let layout = Version::of_length(card.len())?;
+        let (head, rest) = card.split_at(3);
+        let (between, serial) = rest.split_at(rest.len() - 8);
+        let head = big_endian(head);
+        // A card of version 1 has no such byte, and says what this one would.
+        let counts = between.first().copied().unwrap_or(ONE_AND_ONE);
+        let fields = Fields {
+            version: head >> 20,
+            band: head >> 18 & 3,
+            kind: head >> 15 & 7,
+            rate: head >> 14 & 1,
+            modulation: head >> 12 & 3,
+            taps: head >> 1 & 2047,
+            spare: head & 1,
+            serial: big_endian(serial),
+            blocks: u64::from(counts >> 6) + 1,
+            copies: copies_of(counts),
+        };
+        let version = version_of(&fields)?;
+        // On twelve bytes of version 1 these three bits may be anything: that card is 10.
+        let padding = counts & 7;
+        if version == Version::Two && padding != 0 {
+            return Err(Report::refused(number::VERSION_SPARE_OR_PADDING, 0));
+        }
+        Ok(Unpacked {
+            layout,
+            version,
+            fields,
+        })
+    }
+
+    /// The card: refused by 10 and by 3.
+    fn card(&self) -> Result<Card, Report> {
+        if self.version != self.layout {
+            return Err(Report::refused(number::VERSION_AND_LENGTH, 0));
+        }
+        card_of(self.version, &self.fields)
     }
 }
 
-/// Puts fields that fit their bits into eleven bytes, whatever they say.
-pub fn pack(fields: &Fields) -> [u8; CARD_BYTES] {
+/// Puts fields that fit their bits into the layout of a version, whatever they say. The layout of
+/// version 1 has no place for the counts.
+pub fn pack(fields: &Fields, layout: Version) -> Vec<u8> {
     let head = fields.version << 20
         | fields.band << 18
         | fields.kind << 15
@@ -130,76 +272,143 @@ pub fn pack(fields: &Fields) -> [u8; CARD_BYTES] {
         | fields.modulation << 12
         | fields.taps << 1
         | fields.spare;
-    let mut card = [0; CARD_BYTES];
-    card[0] = (head >> 16) as u8;
-    card[1] = (head >> 8) as u8;
-    card[2] = head as u8;
-    card[3..].copy_from_slice(&fields.serial.to_be_bytes());
+    let mut card = head.to_be_bytes()[5..].to_vec();
+    if layout == Version::Two {
+        let Some(counts) = counts_byte(fields.blocks, fields.copies) else {
+            panic!("{fields:?}: the counts do not fit their bits");
+        };
+        card.push(counts);
+    }
+    card.extend(fields.serial.to_be_bytes());
     card
 }
 
-/// Reads a card: refused by 1 with its length, by 2 and by 3.
+/// Reads a card: refused by 1 with its length, by 2, 10 and 3.
 pub fn read(card: &[u8]) -> Result<Card, Report> {
-    let Ok(bytes) = <&[u8; CARD_BYTES]>::try_from(card) else {
-        return Err(Report::refused(number::CARD_LENGTH, card.len() as u64));
-    };
-    let fields = unpack(bytes);
-    check(&fields)?;
-    Ok(Card {
-        band: fields.band as u8,
-        kind: fields.kind as u8,
-        rate: fields.rate as u8,
-        modulation: fields.modulation as u8,
-        taps: fields.taps as u16,
-        serial: fields.serial,
-    })
+    Unpacked::new(card)?.card()
 }
 
-/// Writes a card: refused by 2, 3 and by 5 with eleven (01; D9).
+/// Writes a card: refused by 2, 3, by 5 with its version's length and by 11 (01; D9, D26).
 pub fn write(fields: &Fields, out: &mut [u8]) -> Report {
-    if let Err(refusal) = check(fields) {
-        return refusal;
-    }
-    if out.len() < CARD_BYTES {
-        return Report::refused(number::OUTPUT, CARD_BYTES as u64);
-    }
-    out[..CARD_BYTES].copy_from_slice(&pack(fields));
-    Report::done(CARD_BYTES)
+    try_write(fields, out).map_or_else(|refusal| refusal, Report::done)
 }
 
-/// What the program prints for the bytes it read (01; D11).
+/// Moves a card to the version asked for: refused by 1 with the card's length, by 2 for the card or
+/// for that version, by 10, 3, by 5 with that version's length and by 11 (02, T-03; D26).
+pub fn move_to(card: &[u8], version: u64, out: &mut [u8]) -> Report {
+    try_move(card, version, out).map_or_else(|refusal| refusal, Report::done)
+}
+
+fn try_write(fields: &Fields, out: &mut [u8]) -> Result<usize, Report> {
+    let version = version_of(fields)?;
+    put(&card_of(version, fields)?, out)
+}
+
+fn try_move(card: &[u8], version: u64, out: &mut [u8]) -> Result<usize, Report> {
+    let unpacked = Unpacked::new(card)?;
+    let version = Version::of_number(version)?;
+    let card = unpacked.card()?;
+    put(&Card { version, ..card }, out)
+}
+
+/// Puts a card into the output, in the layout of its version: refused by 5 with the length, then by
+/// 11 where version 1 can't say the counts. Until more than one and one are defined, row 3 keeps
+/// all cards from 11 (D26).
+fn put(card: &Card, out: &mut [u8]) -> Result<usize, Report> {
+    let needed = card.version.bytes();
+    let Some(front) = out.get_mut(..needed) else {
+        return Err(Report::refused(number::OUTPUT, needed as u64));
+    };
+    if card.version == Version::One && (card.blocks, card.copies) != (1, 1) {
+        return Err(Report::refused(number::COUNTS, 0));
+    }
+    front.copy_from_slice(&pack(&card.fields(), card.version));
+    Ok(needed)
+}
+
+/// What the program prints for the bytes it read (01; 02, T-03; D11).
 pub fn text(card: &[u8]) -> String {
     match read(card) {
-        Ok(card) => format!(
-            "version 1\nband {}\nkind {}\nrate {}\nmodulation {}\ntaps {:011b}\nserial {}\n",
-            card.band, card.kind, card.rate, card.modulation, card.taps, card.serial
-        ),
+        Ok(card) => lines(&card),
         Err(refusal) => format!("refused {}\n", refusal.number),
     }
+}
+
+/// A good card's lines; those of the counts are for version 2 only.
+fn lines(card: &Card) -> String {
+    let counts = match card.version {
+        Version::One => String::new(),
+        Version::Two => format!("blocks {}\ncopies {}\n", card.blocks, card.copies),
+    };
+    format!(
+        "version {}\nband {}\nkind {}\nrate {}\nmodulation {}\ntaps {:011b}\n{counts}serial {}\n",
+        card.version.number(),
+        card.band,
+        card.kind,
+        card.rate,
+        card.modulation,
+        card.taps,
+        card.serial
+    )
 }
 
 #[cfg(test)]
 mod tests {
     use super::*;
-    use crate::cases::EXAMPLE as GOOD;
+    use crate::cases::{modes, Random, EXAMPLE as GOOD, SECOND_EXAMPLE};
+
+    /// More than any card needs.
+    const ROOM: usize = 13;
+
+    /// What is done to an output of known bytes: the answer, and the bytes written. All others must
+    /// be kept, so all of them on a refusal.
+    fn done_to(room: usize, act: impl FnOnce(&mut [u8]) -> Report) -> (Report, Vec<u8>) {
+        let mut out = vec![0xAA; room];
+        let report = act(&mut out);
+        let written = match report.number {
+            0 => report.value as usize,
+            _ => 0,
+        };
+        assert!(out[written..].iter().all(|&byte| byte == 0xAA));
+        out.truncate(written);
+        (report, out)
+    }
+
+    fn written_to(room: usize, fields: Fields) -> (Report, Vec<u8>) {
+        done_to(room, |out| write(&fields, out))
+    }
 
     fn written(fields: Fields) -> u32 {
-        let mut out = [0xAA; CARD_BYTES];
-        let report = write(&fields, &mut out);
+        let (report, _) = written_to(ROOM, fields);
         if report.number != 0 {
             assert_eq!(report.value, 0);
-            assert_eq!(out, [0xAA; CARD_BYTES]);
         }
         report.number
+    }
+
+    fn moved_to(room: usize, card: &[u8], version: u64) -> (Report, Vec<u8>) {
+        done_to(room, |out| move_to(card, version, out))
+    }
+
+    /// A card moved to its own version, and to the other and back again, from this end.
+    fn check_moves(card: &[u8], version: Version) {
+        let done = |version: Version, card: &[u8]| (Report::done(version.bytes()), card.to_vec());
+        let (here, there) = (version.number(), version.other().number());
+        assert_eq!(moved_to(ROOM, card, here), done(version, card));
+        let (report, moved) = moved_to(ROOM, card, there);
+        assert_eq!(report, Report::done(version.other().bytes()));
+        assert_eq!(moved_to(ROOM, &moved, here), done(version, card));
+
+        // The same fields, but for the version.
+        let moved = read(&moved).unwrap();
+        assert_eq!(moved.version, version.other());
+        assert_eq!(Card { version, ..moved }, read(card).unwrap());
     }
 
     #[test]
     fn every_head_is_read_as_its_fields_say() {
         // All 2^24 heads would be slow in a debug build; every 7th visits all fields' values.
         for head in (0u32..1 << 24).step_by(7) {
-            let mut bytes = [0u8; CARD_BYTES];
-            bytes[..3].copy_from_slice(&head.to_be_bytes()[1..]);
-            bytes[10] = 9;
             let digits = format!("{head:024b}");
             let field = |from: usize, to: usize| u64::from_str_radix(&digits[from..to], 2).unwrap();
             let fields = Fields {
@@ -211,10 +420,10 @@ mod tests {
                 taps: field(12, 23),
                 spare: field(23, 24),
                 serial: 9,
+                blocks: 1,
+                copies: 1,
             };
-            let expected = if fields.version != 1 || fields.spare != 0 {
-                2
-            } else if fields.kind > 4
+            let mode = if fields.kind > 4
                 || fields.modulation > 2
                 || (fields.rate == 1 && fields.kind != 4)
                 || (fields.kind == 0 && fields.modulation != 1)
@@ -223,93 +432,129 @@ mod tests {
             } else {
                 0
             };
-            match read(&bytes) {
-                Err(refusal) => assert_eq!(refusal, Report::refused(expected, 0)),
-                Ok(card) => {
-                    assert_eq!(expected, 0);
-                    assert_eq!(card.fields(), fields);
-                    let mut again = [0; CARD_BYTES];
-                    assert_eq!(write(&fields, &mut again), Report::done(CARD_BYTES));
-                    assert_eq!(again, bytes);
+            // Eleven bytes are version 1's and twelve version 2's; the fourth says one and one.
+            for version in Version::ALL {
+                let mut bytes = vec![0; version.bytes()];
+                bytes[..3].copy_from_slice(&head.to_be_bytes()[1..]);
+                bytes[version.bytes() - 1] = 9;
+                let expected = match (fields.spare, fields.version) {
+                    (0, 1 | 2) if fields.version == version.number() => mode,
+                    (0, 1 | 2) => 10,
+                    _ => 2,
+                };
+                match read(&bytes) {
+                    Err(refusal) => assert_eq!(refusal, Report::refused(expected, 0)),
+                    Ok(card) => {
+                        assert_eq!(expected, 0);
+                        assert_eq!(card.fields(), fields);
+                        let done = Report::done(version.bytes());
+                        assert_eq!(written_to(ROOM, fields), (done, bytes.clone()));
+                        check_moves(&bytes, version);
+                    }
                 }
             }
         }
     }
 
     #[test]
-    fn lengths_other_than_eleven_are_refused_by_one() {
-        for length in (0..=40).filter(|&length| length != CARD_BYTES) {
+    fn lengths_other_than_eleven_and_twelve_are_refused_by_one() {
+        for length in (0..=40).filter(|length| ![11, 12].contains(length)) {
             let card = vec![0xFF; length];
-            assert_eq!(read(&card), Err(Report::refused(1, length as u64)));
+            let refusal = Report::refused(1, length as u64);
+            assert_eq!(read(&card), Err(refusal));
             assert_eq!(text(&card), "refused 1\n");
+            for version in [0, 1, 2, 3, u64::MAX] {
+                assert_eq!(moved_to(0, &card, version).0, refusal);
+            }
         }
+        assert_eq!(read(&[0xFF; 11]), Err(Report::refused(2, 0)));
+        assert_eq!(read(&[0xFF; 12]), Err(Report::refused(2, 0)));
     }
 
     #[test]
     fn a_field_too_large_is_two_or_three() {
         assert_eq!(written(GOOD), 0);
-        assert_eq!(
-            written(Fields {
-                version: 17,
-                ..GOOD
-            }),
-            2
-        );
-        assert_eq!(
-            written(Fields {
-                version: 0,
-                band: 9,
-                ..GOOD
-            }),
-            2
-        );
-        assert_eq!(
-            written(Fields {
-                spare: 2,
-                taps: 2048,
-                ..GOOD
-            }),
-            2
-        );
-        for (band, expected) in [(1, 0), (2, 0), (3, 0), (4, 3), (5, 3), (1 << 32, 3)] {
-            assert_eq!(written(Fields { band, ..GOOD }), expected);
+        for good in [GOOD, SECOND_EXAMPLE] {
+            assert_eq!(
+                written(Fields {
+                    version: 17,
+                    ..good
+                }),
+                2
+            );
+            assert_eq!(
+                written(Fields {
+                    version: 0,
+                    band: 9,
+                    ..good
+                }),
+                2
+            );
+            assert_eq!(
+                written(Fields {
+                    spare: 2,
+                    taps: 2048,
+                    ..good
+                }),
+                2
+            );
+            for (band, expected) in [(1, 0), (2, 0), (3, 0), (4, 3), (5, 3), (1 << 32, 3)] {
+                assert_eq!(written(Fields { band, ..good }), expected);
+            }
+            assert_eq!(written(Fields { kind: 8, ..good }), 3);
+            assert_eq!(written(Fields { rate: 2, ..good }), 3);
+            assert_eq!(
+                written(Fields {
+                    modulation: 4,
+                    ..good
+                }),
+                3
+            );
+            assert_eq!(written(Fields { taps: 2048, ..good }), 3);
+            assert_eq!(
+                written(Fields {
+                    taps: u64::MAX,
+                    ..good
+                }),
+                3
+            );
+            assert_eq!(
+                written(Fields {
+                    kind: 1 << 63,
+                    ..good
+                }),
+                3
+            );
+            assert_eq!(
+                written(Fields {
+                    taps: 2047,
+                    serial: u64::MAX,
+                    ..good
+                }),
+                0
+            );
         }
-        assert_eq!(written(Fields { kind: 8, ..GOOD }), 3);
-        assert_eq!(written(Fields { rate: 2, ..GOOD }), 3);
-        assert_eq!(
-            written(Fields {
-                modulation: 4,
-                ..GOOD
-            }),
-            3
-        );
-        assert_eq!(written(Fields { taps: 2048, ..GOOD }), 3);
-        assert_eq!(
-            written(Fields {
-                taps: u64::MAX,
-                ..GOOD
-            }),
-            3
-        );
-        assert_eq!(
-            written(Fields {
-                kind: 1 << 63,
-                ..GOOD
-            }),
-            3
-        );
-        assert_eq!(
-            written(Fields {
-                taps: 2047,
-                serial: u64::MAX,
-                ..GOOD
-            }),
-            0
-        );
     }
 
     #[test]
-    fn five_comes_last_with_eleven_and_bytes_beyond_are_kept() {
+    fn versions_other_than_one_and_two_are_two() {
+        let fits = [0].into_iter().chain(3..16);
+        let large = [16, 17, 18, 257, 258, (1 << 32) + 1, (1 << 32) + 2, u64::MAX];
+        for version in fits.chain(large) {
+            assert_eq!(written(Fields { version, ..GOOD }), 2);
+            for layout in Version::ALL {
+                let good = Fields {
+                    version: layout.number(),
+                    ..GOOD
+                };
+                let refusal = (Report::refused(2, 0), Vec::new());
+                assert_eq!(moved_to(ROOM, &pack(&good, layout), version), refusal);
+            }
+        }
+    }
+
+    #[test]
+    fn five_comes_with_the_length_and_bytes_beyond_are_kept() {
         let mut short = [0xAA; 10];
         assert_eq!(write(&GOOD, &mut short), Report::refused(5, 11));
         assert_eq!(short, [0xAA; 10]);
@@ -321,5 +566,231 @@ mod tests {
         assert_eq!(write(&GOOD, &mut long), Report::done(11));
         assert_eq!(long[11..], [0xAA; 2]);
         assert_eq!(read(&long[..11]).unwrap().serial, GOOD.serial);
+
+        for room in 0..=14 {
+            for (version, needed) in [(1, 11), (2, 12)] {
+                let expected = if room < needed {
+                    Report::refused(5, needed as u64)
+                } else {
+                    Report::done(needed)
+                };
+                assert_eq!(written_to(room, Fields { version, ..GOOD }).0, expected);
+                for layout in Version::ALL {
+                    let card = pack(
+                        &Fields {
+                            version: layout.number(),
+                            ..GOOD
+                        },
+                        layout,
+                    );
+                    assert_eq!(moved_to(room, &card, version).0, expected);
+                }
+            }
+        }
+    }
+
+    /// The copy codes of 02 (T-03) with their counts.
+    const CODES: [(u8, u64); 6] = [(0, 1), (1, 2), (2, 4), (3, 5), (4, 7), (5, 11)];
+
+    #[test]
+    fn counts_have_codes_and_codes_have_counts() {
+        for (code, count) in CODES {
+            for blocks in 1..=4 {
+                let byte = (blocks as u8 - 1) * 64 + code * 8;
+                assert_eq!(counts_byte(blocks, count), Some(byte));
+                assert_eq!(copies_of(byte), count);
+            }
+        }
+        assert_eq!([6, 7].map(|code| copies_of(code * 8)), [0, 0]);
+        let counts = CODES.map(|(_, count)| count);
+        for copies in (0..300).chain([(1 << 32) + 1, u64::MAX]) {
+            let has_code = counts.contains(&copies);
+            assert_eq!(counts_byte(1, copies).is_some(), has_code, "{copies}");
+        }
+        for blocks in [0, 5, 6, 257, (1 << 32) + 1, u64::MAX] {
+            assert_eq!(counts_byte(blocks, 1), None);
+        }
+        assert_eq!(counts_byte(1, 1), Some(ONE_AND_ONE));
+    }
+
+    #[test]
+    fn every_fourth_byte_is_judged_by_version_spare_and_counts() {
+        let of_kind_0 = Fields {
+            kind: 0,
+            rate: 0,
+            ..GOOD
+        };
+        for good in [GOOD, of_kind_0] {
+            for (version, spare) in [(1, 0), (2, 0), (1, 1), (2, 1), (3, 0), (0, 1)] {
+                for byte in 0..=255u8 {
+                    let fields = Fields {
+                        version,
+                        spare,
+                        ..good
+                    };
+                    let mut card = pack(&fields, Version::Two);
+                    card[3] = byte;
+                    let expected = match (version, spare) {
+                        (1, 0) => 10,
+                        (2, 0) if byte % 8 != 0 => 2,
+                        // More than one block, more than one copy, or no count of copies.
+                        (2, 0) if byte != 0 => 3,
+                        (2, 0) => 0,
+                        _ => 2,
+                    };
+                    let number = read(&card).map_or_else(|refusal| refusal.number, |_| 0);
+                    assert_eq!(number, expected, "{card:02x?}");
+                    for asked in [1, 2] {
+                        assert_eq!(moved_to(ROOM, &card, asked).0.number, expected);
+                    }
+                    if expected > 0 {
+                        assert_eq!(text(&card), format!("refused {expected}\n"));
+                    }
+                }
+            }
+        }
+    }
+
+    #[test]
+    fn more_blocks_or_copies_are_three_when_written() {
+        let of_kind_0 = Fields {
+            kind: 0,
+            rate: 0,
+            ..GOOD
+        };
+        let large = [257, (1 << 32) + 1, u64::MAX];
+        for good in [GOOD, of_kind_0] {
+            for version in [1, 2] {
+                for blocks in (0..=6).chain(large) {
+                    for copies in (0..=13).chain(large) {
+                        let fields = Fields {
+                            version,
+                            blocks,
+                            copies,
+                            ..good
+                        };
+                        let expected = if (blocks, copies) == (1, 1) { 0 } else { 3 };
+                        assert_eq!(written(fields), expected, "{fields:?}");
+                        if expected == 3 {
+                            // 3 goes before 5, and so before 11.
+                            assert_eq!(written_to(0, fields).0, Report::refused(3, 0));
+                            let spare = 1;
+                            assert_eq!(written(Fields { spare, ..fields }), 2);
+                        }
+                    }
+                }
+            }
+        }
+    }
+
+    #[test]
+    fn eleven_is_last_and_for_version_1_alone() {
+        // No fields reach it, so it is asked of a card that none could say.
+        let card = read(&pack(&GOOD, Version::One)).unwrap();
+        for (code, count) in CODES {
+            for blocks in 1..=4 {
+                let copies = count as u8;
+                let card = Card {
+                    blocks,
+                    copies,
+                    ..card
+                };
+                let put_into = |room, version| {
+                    let card = Card { version, ..card };
+                    done_to(room, |out| {
+                        put(&card, out).map_or_else(|refusal| refusal, Report::done)
+                    })
+                };
+                assert_eq!(put_into(10, Version::One).0, Report::refused(5, 11));
+                assert_eq!(put_into(11, Version::Two).0, Report::refused(5, 12));
+                let (first, _) = put_into(ROOM, Version::One);
+                let (second, bytes) = put_into(ROOM, Version::Two);
+                if (blocks, copies) == (1, 1) {
+                    assert_eq!(first, Report::done(11));
+                } else {
+                    assert_eq!(first, Report::refused(11, 0));
+                }
+                assert_eq!(second, Report::done(12));
+                assert_eq!(bytes[3], (blocks - 1) * 64 + code * 8);
+                let version = Version::Two;
+                let text = lines(&Card { version, ..card });
+                assert!(text.contains(&format!("\nblocks {blocks}\ncopies {copies}\nserial ")));
+            }
+        }
+    }
+
+    #[test]
+    fn cards_of_every_mode_move_there_and_back() {
+        let mut random = Random::new(6);
+        for mode in modes() {
+            for version in Version::ALL {
+                let taps = random.below(2048) as u16;
+                let serial = random.word_of_any_size();
+                check_moves(&mode.card_of(version, taps, serial), version);
+            }
+        }
+    }
+
+    #[test]
+    fn moving_changes_the_version_and_the_fourth_byte_alone() {
+        let mut random = Random::new(7);
+        for mode in modes() {
+            let (taps, serial) = (random.below(2048) as u16, random.word());
+            let first = mode.card_of(Version::One, taps, serial);
+            let mut expected = first.clone();
+            expected[0] += 0x10;
+            expected.insert(3, 0);
+            assert_eq!(moved_to(ROOM, &first, 2), (Report::done(12), expected));
+        }
+    }
+
+    /// Bytes of a card and a version asked for, each wrong in one or two ways: which row is named.
+    #[test]
+    fn where_two_causes_meet_the_first_row_is_named() {
+        let on = |layout, version, kind, spare| {
+            let fields = Fields {
+                version,
+                kind,
+                spare,
+                rate: 0,
+                ..GOOD
+            };
+            pack(&fields, layout)
+        };
+        let with_byte_3 = |byte| {
+            let mut card = on(Version::Two, 2, 4, 0);
+            card[3] = byte;
+            card
+        };
+        let thirteen = [on(Version::Two, 3, 5, 1), vec![1]].concat();
+        // The card, its number when it is read, and its numbers when it is moved to version 2 and
+        // to version 3.
+        let cases = [
+            (thirteen, 1, 1, 1),
+            (on(Version::One, 3, 5, 0), 2, 2, 2),
+            (on(Version::Two, 0, 5, 0), 2, 2, 2),
+            (on(Version::One, 2, 4, 1), 2, 2, 2),
+            (on(Version::Two, 1, 4, 1), 2, 2, 2),
+            (on(Version::One, 2, 5, 0), 10, 10, 2),
+            (on(Version::Two, 1, 5, 0), 10, 10, 2),
+            (on(Version::One, 1, 5, 0), 3, 3, 2),
+            (on(Version::Two, 2, 5, 0), 3, 3, 2),
+            (with_byte_3(0x39), 2, 2, 2),
+            (with_byte_3(0xC1), 2, 2, 2),
+            (with_byte_3(0xF8), 3, 3, 2),
+            // Nothing is wrong with the card but the room.
+            (on(Version::One, 1, 4, 0), 0, 5, 2),
+            (on(Version::Two, 2, 4, 0), 0, 5, 2),
+        ];
+        for (card, when_read, to_second, to_third) in cases {
+            let number = read(&card).map_or_else(|refusal| refusal.number, |_| 0);
+            assert_eq!(number, when_read, "{card:02x?}");
+            for room in 0..12 {
+                assert_eq!(moved_to(room, &card, 2).0.number, to_second);
+                assert_eq!(moved_to(room, &card, 3).0.number, to_third);
+            }
+            assert_eq!(moved_to(ROOM, &card, 2).0.number, when_read);
+            assert_eq!(moved_to(ROOM, &card, 3).0.number, to_third);
+        }
     }
 }

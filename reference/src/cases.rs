@@ -3,7 +3,7 @@
 
 use std::ops::Range;
 
-use crate::card::{self, Card, Fields, CARD_BYTES};
+use crate::card::{self, Card, Fields, Version};
 use crate::carriers::{self, Band, BANDS, FRAME_CONTROL_BITS};
 use crate::interface::Entry;
 use crate::interleaver::{self, coded_bits, data_bits};
@@ -76,6 +76,14 @@ pub const EXAMPLE: Fields = Fields {
     taps: 0b10001000111,
     spare: 0,
     serial: 9_007_199_254_740_993,
+    blocks: 1,
+    copies: 1,
+};
+
+/// The example as a card of version 2 (02, T-03).
+pub const SECOND_EXAMPLE: Fields = Fields {
+    version: 2,
+    ..EXAMPLE
 };
 
 /// Room for any answer.
@@ -143,24 +151,33 @@ impl Mode {
         Some(Mode::new(card.band, card.kind, card.rate, card.modulation))
     }
 
-    /// The fields of the mode's card.
-    pub const fn fields(&self, taps: u16, serial: u64) -> Fields {
+    /// The fields of the mode's card of a version, with one block and one copy.
+    pub const fn fields(&self, version: Version, taps: u16, serial: u64) -> Fields {
         let card = Card {
+            version,
             band: self.band,
             kind: self.kind,
             rate: self.rate,
             modulation: self.modulation,
             taps,
             serial,
+            blocks: 1,
+            copies: 1,
         };
         card.fields()
     }
 
-    pub fn card(&self, taps: u16, serial: u64) -> [u8; CARD_BYTES] {
-        let mut card = [0; CARD_BYTES];
-        let report = card::write(&self.fields(taps, serial), &mut card);
-        assert_eq!(report, Report::done(CARD_BYTES), "{self:?} taps {taps}");
+    /// The mode's card of a version.
+    pub fn card_of(&self, version: Version, taps: u16, serial: u64) -> Vec<u8> {
+        let mut card = vec![0; version.bytes()];
+        let report = card::write(&self.fields(version, taps, serial), &mut card);
+        assert_eq!(report, Report::done(card.len()), "{self:?} taps {taps}");
         card
+    }
+
+    /// The mode's card of version 1.
+    pub fn card(&self, taps: u16, serial: u64) -> Vec<u8> {
+        self.card_of(Version::One, taps, serial)
     }
 
     pub const fn rate_name(&self) -> &'static str {
@@ -257,7 +274,7 @@ impl Mode {
 #[derive(Clone, Debug)]
 pub struct Reception {
     pub mode: Mode,
-    pub card: [u8; CARD_BYTES],
+    pub card: Vec<u8>,
     pub block: Vec<u8>,
     pub sent: Vec<u8>,
     pub items: Vec<u8>,
@@ -265,7 +282,7 @@ pub struct Reception {
 
 impl Reception {
     /// Sends a block and receives it as it was sent.
-    pub fn new(mode: Mode, card: [u8; CARD_BYTES], block: Vec<u8>) -> Reception {
+    pub fn new(mode: Mode, card: Vec<u8>, block: Vec<u8>) -> Reception {
         let mut sent = vec![0; mode.items()];
         let report = mode.entries().0.call(&card, &block, &mut sent);
         assert_eq!(report, Report::done(sent.len()), "{mode:?}");
@@ -273,12 +290,7 @@ impl Reception {
     }
 
     /// Items that were sent for a block, received as they were sent.
-    pub fn of_items(
-        mode: Mode,
-        card: [u8; CARD_BYTES],
-        block: Vec<u8>,
-        sent: Vec<u8>,
-    ) -> Reception {
+    pub fn of_items(mode: Mode, card: Vec<u8>, block: Vec<u8>, sent: Vec<u8>) -> Reception {
         let items = sent.clone();
         Reception {
             mode,
@@ -289,7 +301,7 @@ impl Reception {
         }
     }
 
-    /// Any taps, serial and block.
+    /// A card of version 1 with any taps and serial, and any block.
     pub fn random(mode: Mode, random: &mut Random) -> Reception {
         let card = mode.card(random.below(2048) as u16, random.word());
         Reception::new(mode, card, random.bytes(mode.bytes()))
@@ -415,7 +427,12 @@ mod tests {
         assert_eq!(modes.len(), 64);
         for (n, mode) in modes.iter().enumerate() {
             assert_eq!(usize::from(mode.band), n / 16);
-            assert_eq!(Mode::of(&mode.card(2047, 5)), Some(*mode));
+            assert_eq!(mode.card(2047, 5), mode.card_of(Version::One, 2047, 5));
+            for version in Version::ALL {
+                let card = mode.card_of(version, 2047, 5);
+                assert_eq!(Mode::of(&card), Some(*mode));
+                assert_eq!(card.len(), version.bytes());
+            }
             assert!(!modes[..n].contains(mode));
         }
     }

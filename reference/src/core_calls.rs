@@ -24,6 +24,16 @@ extern "C" {
         taps: u64,
         spare: u64,
         serial: u64,
+        blocks: u64,
+        copies: u64,
+        out: *mut u8,
+        out_len: usize,
+        value: *mut u64,
+    ) -> u32;
+    fn hplc_card_move(
+        card: *const u8,
+        card_len: usize,
+        version: u64,
         out: *mut u8,
         out_len: usize,
         value: *mut u64,
@@ -133,9 +143,15 @@ impl Core {
         out: &mut [u8],
         value: &mut Value,
     ) -> u32 {
-        let [a, b, c, d, e, f, g, h] = *fields;
+        let [a, b, c, d, e, f, g, h, i, j] = *fields;
         let (to, room, value) = (self.output(out), out.len(), value.as_mut_ptr());
-        unsafe { hplc_card_write(a, b, c, d, e, f, g, h, to, room, value) }
+        unsafe { hplc_card_write(a, b, c, d, e, f, g, h, i, j, to, room, value) }
+    }
+
+    pub fn card_move(&self, card: &[u8], version: u64, out: &mut [u8], value: &mut Value) -> u32 {
+        let (from, to) = (self.input(card), self.output(out));
+        let (room, value) = (out.len(), value.as_mut_ptr());
+        unsafe { hplc_card_move(from, card.len(), version, to, room, value) }
     }
 
     pub fn card_text(&self, card: &[u8], out: &mut [u8], value: &mut Value) -> u32 {

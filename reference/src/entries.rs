@@ -1,7 +1,8 @@
 //! The four entries: frame control and payload, each sent and read, from bytes to items and back.
 //!
-//! Refusals go in the row order of 01's table: 1, 2, 3, 9, 4, 5, 6, 7, 8 (D9). An entry writes its
-//! output last, so a refusal leaves it as it was.
+//! Refusals go in the row order of 01's table, amended by 02 (T-03): 1, 2, 10, 3, 9, 4, 5, 6, 7, 8
+//! (D9). Cards of both versions are taken. An entry writes its output last, so a refusal leaves it
+//! as it was.
 
 use crate::card::{self, Card};
 use crate::carriers::{self, Balance, Band, BANDS, FRAME_CONTROL_BITS};

@@ -30,7 +30,7 @@ fn found(answer: Result<u64, Report>) -> Report {
     )
 }
 
-/// `hplc_card_read`: version, band, kind, rate, modulation, taps, spare, serial.
+/// `hplc_card_read`: version, band, kind, rate, modulation, taps, spare, serial, blocks, copies.
 pub fn card_read(card: &[u8], fields: &mut [u64]) -> Report {
     match card::read(card) {
         Ok(card) => put(&card.fields().to_array(), fields),
@@ -41,6 +41,11 @@ pub fn card_read(card: &[u8], fields: &mut [u64]) -> Report {
 /// `hplc_card_write`, its fields in the order of `card_read`.
 pub fn card_write(fields: &[u64; CARD_FIELDS], out: &mut [u8]) -> Report {
     card::write(&Fields::from_array(*fields), out)
+}
+
+/// `hplc_card_move`.
+pub fn card_move(card: &[u8], version: u64, out: &mut [u8]) -> Report {
+    card::move_to(card, version, out)
 }
 
 /// `hplc_card_text`.
@@ -136,31 +141,62 @@ impl Entry {
 #[cfg(test)]
 mod tests {
     use super::*;
-    use crate::card::pack;
-    use crate::cases::EXAMPLE;
+    use crate::card::{pack, Version};
+    use crate::cases::{EXAMPLE, SECOND_EXAMPLE};
 
     #[test]
     fn fields_of_the_example_and_back() {
-        let mut fields = [7; 9];
-        let example = pack(&EXAMPLE);
-        assert_eq!(card_read(&example, &mut fields), Report::done(8));
-        assert_eq!(fields[..8], EXAMPLE.to_array());
-        assert_eq!(fields[8], 7);
-        let mut card = [0; 11];
-        let report = card_write(&EXAMPLE.to_array(), &mut card);
-        assert_eq!((report, card), (Report::done(11), example));
+        for (example, version) in [(EXAMPLE, Version::One), (SECOND_EXAMPLE, Version::Two)] {
+            let mut fields = [7; 11];
+            let bytes = pack(&example, version);
+            assert_eq!(card_read(&bytes, &mut fields), Report::done(10));
+            assert_eq!(fields[..10], example.to_array());
+            assert_eq!(fields[10], 7);
+            let mut card = vec![0; version.bytes()];
+            let report = card_write(&example.to_array(), &mut card);
+            assert_eq!((report, card), (Report::done(version.bytes()), bytes));
+        }
+    }
+
+    #[test]
+    fn fields_stand_in_their_order() {
+        let mut fields = [7; 10];
+        // Band 3, kind 1, rate 1/2, 16QAM, taps 1; then one block and one copy; then the serial.
+        let card = [0x2C, 0xA0, 0x02, 0, 0, 0, 0, 0, 0, 0, 2, 3];
+        assert_eq!(card_read(&card, &mut fields), Report::done(10));
+        assert_eq!(fields, [2, 3, 1, 0, 2, 1, 0, 515, 1, 1]);
+    }
+
+    #[test]
+    fn the_example_moves_to_version_2_and_back() {
+        let first = pack(&EXAMPLE, Version::One);
+        let second = pack(&SECOND_EXAMPLE, Version::Two);
+        let mut out = [7; 13];
+        assert_eq!(card_move(&first, 2, &mut out), Report::done(12));
+        assert_eq!(out[..12], second);
+        assert_eq!(out[12], 7);
+        let mut out = [7; 12];
+        assert_eq!(card_move(&second, 1, &mut out), Report::done(11));
+        assert_eq!(out[..11], first);
+        assert_eq!(out[11], 7);
+        let mut out = [7; 11];
+        assert_eq!(card_move(&second, 2, &mut out), Report::refused(5, 12));
+        assert_eq!(card_move(&first, 3, &mut out), Report::refused(2, 0));
+        assert_eq!(out, [7; 11]);
     }
 
     #[test]
     fn room_is_judged_after_the_card_and_before_the_items() {
-        let example = pack(&EXAMPLE);
-        let mut fields = [7; 7];
-        assert_eq!(card_read(&example, &mut fields), Report::refused(5, 8));
-        assert_eq!(
-            card_read(&example[..10], &mut fields),
-            Report::refused(1, 10)
-        );
-        assert_eq!(fields, [7; 7]);
+        let example = pack(&EXAMPLE, Version::One);
+        for room in 7..10 {
+            let mut fields = vec![7; room];
+            assert_eq!(card_read(&example, &mut fields), Report::refused(5, 10));
+            assert_eq!(
+                card_read(&example[..10], &mut fields),
+                Report::refused(1, 10)
+            );
+            assert_eq!(fields, vec![7; room]);
+        }
 
         let mut text = [7; 200];
         let length = card::text(&example).len();

@@ -19,11 +19,13 @@ pub mod turbo;
 #[cfg(test)]
 mod tests;
 
-/// The numbers a fitter may see (01, "Numbers a fitter may see").
+/// The numbers a fitter may see (01, "Numbers a fitter may see"; 02, T-03), in the order in which
+/// they are checked (D9).
 pub mod number {
     pub const DONE: u32 = 0;
     pub const CARD_LENGTH: u32 = 1;
-    pub const VERSION_OR_SPARE: u32 = 2;
+    pub const VERSION_SPARE_OR_PADDING: u32 = 2;
+    pub const VERSION_AND_LENGTH: u32 = 10;
     pub const MODE: u32 = 3;
     pub const PAD: u32 = 9;
     pub const INPUT: u32 = 4;
@@ -31,6 +33,7 @@ pub mod number {
     pub const ITEM: u32 = 6;
     pub const MAJORITY: u32 = 7;
     pub const PARITY: u32 = 8;
+    pub const COUNTS: u32 = 11;
 }
 
 /// An entry's answer: the number and what comes with it (D10, D18). The second value is 0 in the
@@ -61,4 +64,10 @@ impl Report {
     pub const fn refused(number: u32, value: u64) -> Report {
         Report::new(number, [value, 0])
     }
+}
+
+/// The number that up to eight bytes hold, the most significant first.
+pub fn big_endian(bytes: &[u8]) -> u64 {
+    let bytes = bytes.iter();
+    bytes.fold(0, |number, &byte| number << 8 | u64::from(byte))
 }

@@ -1,10 +1,10 @@
-//! The bench checks P1 to P12 of 01, the narrow bands of 02 (T-01), and the entries in all defined
-//! modes.
+//! The bench checks P1 to P12 of 01, the narrow bands and the second card of 02 (T-01, T-03), and
+//! the entries in all defined modes.
 
-use crate::card;
+use crate::card::{self, Version};
 use crate::carriers::{self, BANDS};
 use crate::cases::{
-    altered_and_lost, frame_controls, modes, Mode, Random, Reception, EXAMPLE, TAPS,
+    altered_and_lost, frame_controls, modes, Mode, Random, Reception, EXAMPLE, SECOND_EXAMPLE, TAPS,
 };
 use crate::interface::{place_of_sub_carrier, sub_carrier_of_place, Entry};
 use crate::scrambler::{scramble, Scrambler};
@@ -240,11 +240,61 @@ fn p11_the_card_of_the_example() {
     for (byte, band) in [(0x16, "band 1"), (0x1A, "band 2"), (0x1E, "band 3")] {
         assert_eq!(with(0, byte), text.replace("band 0", band));
     }
-    // Refused cards print their number alone: kind 5, version 2, spare 1.
-    for (index, byte, expected) in [(1, 0xD8, 3), (0, 0x22, 2), (2, 0x8F, 2)] {
+    // Refused cards print their number alone: kind 5, version 2 on eleven bytes, spare 1.
+    for (index, byte, expected) in [(1, 0xD8, 3), (0, 0x22, 10), (2, 0x8F, 2)] {
         assert_eq!(with(index, byte), format!("refused {expected}\n"));
     }
     assert_eq!(card::text(&bytes[..10]), "refused 1\n");
+}
+
+#[test]
+fn the_example_as_a_card_of_version_2() {
+    let first = [0x12, 0x58, 0x8E, 0x00, 0x20, 0, 0, 0, 0, 0, 1];
+    let second = [0x22, 0x58, 0x8E, 0x00, 0x00, 0x20, 0, 0, 0, 0, 0, 1];
+    let text = "version 2\nband 0\nkind 4\nrate 1\nmodulation 1\ntaps 10001000111\n\
+                blocks 1\ncopies 1\nserial 9007199254740993\n";
+    assert_eq!(card::text(&second), text);
+    let mut out = [0; 12];
+    assert_eq!(card::write(&SECOND_EXAMPLE, &mut out), Report::done(12));
+    assert_eq!(out, second);
+
+    // There and back from either end.
+    let moved = |card: &[u8], version: u64| {
+        let mut out = [0xA5; 12];
+        let report = card::move_to(card, version, &mut out);
+        assert_eq!(report, Report::done(10 + version as usize));
+        out[..10 + version as usize].to_vec()
+    };
+    assert_eq!(
+        (moved(&first, 2), moved(&second, 1)),
+        (second.to_vec(), first.to_vec())
+    );
+    assert_eq!(
+        (moved(&first, 1), moved(&second, 2)),
+        (first.to_vec(), second.to_vec())
+    );
+    assert_eq!(moved(&moved(&first, 2), 1), first);
+    assert_eq!(moved(&moved(&second, 1), 2), second);
+
+    // Kind 5, version 1 on twelve bytes, spare 1, padding, two blocks, two copies, copy codes 6, 7.
+    for (index, byte, expected) in [
+        (1, 0xD8, 3),
+        (0, 0x12, 10),
+        (2, 0x8F, 2),
+        (3, 0x01, 2),
+        (3, 0x02, 2),
+        (3, 0x04, 2),
+        (3, 0x40, 3),
+        (3, 0x08, 3),
+        (3, 0x30, 3),
+        (3, 0x38, 3),
+    ] {
+        let mut other = second;
+        other[index] = byte;
+        assert_eq!(card::text(&other), format!("refused {expected}\n"));
+    }
+    assert_eq!(card::text(&second[..11]), "refused 10\n");
+    assert_eq!(card::text(&[&second[..], &[0]].concat()), "refused 1\n");
 }
 
 #[test]
@@ -260,19 +310,49 @@ fn round_trips_in_all_defined_modes() {
     let mut random = Random::new(1);
     for taps in TAPS {
         for mode in modes() {
-            let (card, (send, read)) = (mode.card(taps, SERIAL), mode.entries());
+            let (send, read) = mode.entries();
             let block = random.bytes(mode.bytes());
             let needed = item_bits(mode).len();
-            let mut items = vec![7; needed + 5];
-            let report = send.call(&card, &block, &mut items);
-            assert_eq!(report, Report::done(needed), "{mode:?}");
-            assert_eq!(items[needed..], [7; 5]);
-            assert!(items[..needed].iter().all(|&item| item < 2));
-            let mut back = vec![0xA5; mode.bytes() + 1];
-            let report = read.call(&card, &items[..needed], &mut back);
-            assert_eq!(report, Report::done(mode.bytes()), "{mode:?}");
-            assert_eq!(back[..mode.bytes()], block);
-            assert_eq!(back[mode.bytes()], 0xA5);
+            for version in Version::ALL {
+                let card = mode.card_of(version, taps, SERIAL);
+                let mut items = vec![7; needed + 5];
+                let report = send.call(&card, &block, &mut items);
+                assert_eq!(report, Report::done(needed), "{mode:?}");
+                assert_eq!(items[needed..], [7; 5]);
+                assert!(items[..needed].iter().all(|&item| item < 2));
+                let mut back = vec![0xA5; mode.bytes() + 1];
+                let report = read.call(&card, &items[..needed], &mut back);
+                assert_eq!(report, Report::done(mode.bytes()), "{mode:?}");
+                assert_eq!(back[..mode.bytes()], block);
+                assert_eq!(back[mode.bytes()], 0xA5);
+            }
+        }
+    }
+}
+
+#[test]
+fn both_versions_of_a_card_send_and_read_alike() {
+    let mut random = Random::new(6);
+    for mode in modes() {
+        let (taps, (send, read)) = (random.below(2048) as u16, mode.entries());
+        let cards = Version::ALL.map(|version| mode.card_of(version, taps, SERIAL));
+        let mut damaged = Reception::new(mode, cards[0].clone(), random.bytes(mode.bytes()));
+        for round in 0..4 {
+            // As it was sent, a bit wrong, a bit lost besides, and an illegal item besides.
+            match round {
+                0 => {}
+                1 => damaged.flip_bit(random.below(mode.coded())),
+                2 => damaged.lose_bit(random.below(mode.coded())),
+                _ => damaged.items[9] = 3,
+            }
+            let answers = cards.each_ref().map(|card| {
+                let mut items = vec![7; mode.items() + 1];
+                let sent = send.call(card, &damaged.block, &mut items);
+                let mut block = vec![7; mode.bytes() + 1];
+                let report = read.call(card, &damaged.items, &mut block);
+                (sent, items, report, block)
+            });
+            assert_eq!(answers[0], answers[1], "{mode:?}");
         }
     }
 }
@@ -353,13 +433,55 @@ fn cards_are_refused_before_all_else() {
             (report.number, report.value)
         };
         assert_eq!(number(&good[..10]), (1, 10));
-        assert_eq!(number(&[0xFF; 12]), (1, 12));
+        assert_eq!(number(&[0xFF; 12]), (2, 0));
+        assert_eq!(number(&[0xFF; 13]), (1, 13));
         assert_eq!(number(&[0xFF; 11]), (2, 0));
         let modulation_3 = [0x10, 0xB0, 0, 0, 0, 0, 0, 0, 0, 0, 0];
         let kind_5 = [0x12, 0x90, 0, 0, 0, 0, 0, 0, 0, 0, 0];
         assert_eq!(number(&modulation_3), (3, 0));
         assert_eq!(number(&kind_5), (3, 0));
         assert_eq!(number(other), (3, 0));
+    }
+}
+
+#[test]
+fn cards_of_version_2_are_refused_before_all_else() {
+    let frame_control = Mode::frame_control(0);
+    let payload = Mode::new(0, 1, 0, 1);
+    for entry in Entry::ALL {
+        let (served, other) = match entry {
+            Entry::FcSend | Entry::FcRead => (frame_control, payload),
+            Entry::PayloadSend | Entry::PayloadRead => (payload, frame_control),
+        };
+        let good = served.card_of(Version::Two, 5, SERIAL);
+        let mut out = [0xA5; 3];
+        let mut number = |card: &[u8]| {
+            let report = entry.call(card, &[9; 5], &mut out);
+            assert_eq!(out, [0xA5; 3]);
+            (report.number, report.value)
+        };
+        // The card itself is served: the input's length is judged next.
+        assert_eq!(number(&good), (4, 5));
+        assert_eq!(number(&good[..10]), (1, 10));
+        assert_eq!(number(&[&good[..], &[0]].concat()), (1, 13));
+        assert_eq!(number(&good[..11]), (10, 0));
+        let mut with = |index: usize, byte: u8| {
+            let mut card = good.clone();
+            card[index] = byte;
+            number(&card)
+        };
+        // Version 1 on twelve bytes, whatever the fourth; the spare bit goes before it.
+        assert_eq!(with(0, good[0] - 0x10), (10, 0));
+        assert_eq!(with(2, good[2] | 1), (2, 0));
+        for byte in [0x01, 0x02, 0x04, 0x39, 0xFF] {
+            assert_eq!(with(3, byte), (2, 0));
+        }
+        for byte in [0x08, 0x10, 0x18, 0x20, 0x28, 0x30, 0x38, 0x40, 0x80, 0xC0] {
+            assert_eq!(with(3, byte), (3, 0));
+        }
+        // Modulation 3, and a kind that the entry doesn't serve.
+        assert_eq!(with(1, good[1] | 0x30), (3, 0));
+        assert_eq!(number(&other.card_of(Version::Two, 5, SERIAL)), (3, 0));
     }
 }
 
@@ -464,7 +586,7 @@ fn the_count_of_refusal_8() {
 #[test]
 fn damage_is_judged_as_the_words_of_01_say() {
     let mut random = Random::new(4);
-    let mut seen = [0; 10];
+    let mut seen = [0; 12];
     for round in 0..60 {
         let taps = TAPS[round % TAPS.len()];
         for mode in modes() {

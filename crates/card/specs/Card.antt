@@ -1,6 +1,6 @@
--- The job card (paper 01's term): fields in eleven bytes (version 1) or twelve (version 2), bit-packed, most significant first. Assumes nothing.
+-- The job card (paper 01's term): eleven bytes (version 1) or twelve (version 2), bit-packed, most significant first. Assumes nothing.
 use mathlib.Core.Bool.{cond}
-use mathlib.Core.List.{List, [], _∷_}
+use mathlib.Core.List.{List, [], _∷_, _++_}
 use Prim.Native.Nat.{ℕ, _+_, _-_, _*_, _^_}
 use lib.Dec.{eqb}
 use lib.ListN.{length, getD}
@@ -38,6 +38,10 @@ packed [] vs n = n
 packed (w ∷ ws) [] n = n
 packed (w ∷ ws) (v ∷ vs) n = packed ws vs (n * 2 ^ w + v)
 
+-- the seven fields that both versions begin with
+abbrev pub firstFields : Card → List ℕ
+firstFields c = c .version ∷ c .band ∷ c .kind ∷ c .rate ∷ c .modulation ∷ c .taps ∷ c .spare ∷ []
+
 -- a card from the numbers in its bytes, and those numbers of a card; padding is 0
 abbrev pub cardFrom : List ℕ → Card
 cardFrom vs =
@@ -55,8 +59,7 @@ cardFrom vs =
     }
 
 abbrev pub numbersOf : Card → List ℕ
-numbersOf c =
-    c .version ∷ c .band ∷ c .kind ∷ c .rate ∷ c .modulation ∷ c .taps ∷ c .spare ∷ (c .blocks - 1) ∷ copyCode (c .copies) ∷ 0 ∷ c .serial ∷ []
+numbersOf c = firstFields c ++ ((c .blocks - 1) ∷ copyCode (c .copies) ∷ 0 ∷ c .serial ∷ [])
 
 -- the card in some bytes, twelve of them laid out as version 2 and any other number as version 1; and their padding
 unfoldable pub cardOf : List ℕ → Card
@@ -67,10 +70,8 @@ paddingOf bytes = getD (fieldsFrom bytes 0 (widths (length bytes))) 9 0
 
 -- the bytes of a card, as many as its version has
 unfoldable pub bytesOfCard : Card → List ℕ
-bytesOfCard c =
-    bytesOf (cardBytes (c .version)) (λ i. bitAt (8 * cardBytes (c .version) - 1 - i) (packed (widths (cardBytes (c .version))) (numbersOf c) 0))
+bytesOfCard c = let n = cardBytes (c .version) in bytesOf n (λ i. bitAt (8 * n - 1 - i) (packed (widths n) (numbersOf c) 0))
 
 -- a card's ten fields in order
 abbrev pub fieldsOf : Card → List ℕ
-fieldsOf c =
-    c .version ∷ c .band ∷ c .kind ∷ c .rate ∷ c .modulation ∷ c .taps ∷ c .spare ∷ c .serial ∷ c .blocks ∷ c .copies ∷ []
+fieldsOf c = firstFields c ++ (c .serial ∷ c .blocks ∷ c .copies ∷ [])

@@ -40,7 +40,7 @@ struct Times {
 fn calls_of(mode: Mode, random: &mut Random) -> [Timed; 2] {
     let reception = Reception::random(mode, random);
     let (send, read) = mode.entries();
-    let card = reception.card.to_vec();
+    let card = reception.card;
     let sent = Timed {
         entry: send,
         mode,

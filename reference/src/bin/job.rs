@@ -1,5 +1,5 @@
 //! The programs `encode`, `decode` and `print_card` over the reference, to be compared with those
-//! over the core.
+//! over the core. Each takes cards of both versions.
 //!
 //! `job encode CARD BLOCK` writes the items, a byte an item; `job decode CARD ITEMS` writes the
 //! bytes as a line of hex. The card's kind says whether it is a frame control or a payload block. A
@@ -54,6 +54,10 @@ fn decode(card: &[u8], items: &[u8]) -> Vec<u8> {
     call(entries(card).1, card, items).map_or_else(refused, hex_line)
 }
 
+fn print_card(card: &[u8]) -> Vec<u8> {
+    card::text(card).into_bytes()
+}
+
 fn file(name: &str) -> Vec<u8> {
     fs::read(name).unwrap_or_default()
 }
@@ -71,7 +75,7 @@ fn main() -> ExitCode {
         ["--help" | "-h", ..] => Ok(format!("{USAGE}\n").into_bytes()),
         ["encode", card, block] => Ok(encode(&file(card), &file(block))),
         ["decode", card, items] => Ok(decode(&file(card), &file(items))),
-        ["print_card"] => standard_input().map(|card| card::text(&card).into_bytes()),
+        ["print_card"] => standard_input().map(|card| print_card(&card)),
         _ => {
             eprintln!("{USAGE}");
             return ExitCode::from(2);
@@ -89,15 +93,19 @@ fn main() -> ExitCode {
 #[cfg(test)]
 mod tests {
     use super::*;
+    use reference::card::Version;
     use reference::cases::modes;
 
     #[test]
     fn what_is_encoded_is_decoded() {
         for mode in modes() {
-            let (card, block) = (mode.card(1095, 5), vec![0xA5; mode.bytes()]);
-            let items = encode(&card, &block);
-            assert_eq!(items.len(), mode.items());
-            assert_eq!(decode(&card, &items), hex_line(block));
+            for version in Version::ALL {
+                let card = mode.card_of(version, 1095, 5);
+                let block = vec![0xA5; mode.bytes()];
+                let items = encode(&card, &block);
+                assert_eq!(items.len(), mode.items());
+                assert_eq!(decode(&card, &items), hex_line(block));
+            }
         }
     }
 
@@ -106,5 +114,24 @@ mod tests {
         let card = modes()[0].card(0, 0);
         assert_eq!(encode(&card, &[0; 15]), b"refused 4\nvalue 15\n");
         assert_eq!(decode(&card[..10], &[]), b"refused 1\nvalue 10\n");
+        for mode in modes() {
+            let card = mode.card_of(Version::Two, 0, 0);
+            assert_eq!(encode(&card[..11], &[]), b"refused 10\nvalue 0\n");
+            let mut two_blocks = card.clone();
+            two_blocks[3] = 0x40;
+            assert_eq!(decode(&two_blocks, &[]), b"refused 3\nvalue 0\n");
+            let mut padded = card.clone();
+            padded[3] = 0x41;
+            assert_eq!(decode(&padded, &[]), b"refused 2\nvalue 0\n");
+        }
+    }
+
+    #[test]
+    fn a_card_is_printed_with_its_version() {
+        let card = modes()[0].card_of(Version::Two, 5, 6);
+        let text = "version 2\nband 0\nkind 0\nrate 0\nmodulation 1\ntaps 00000000101\n\
+                    blocks 1\ncopies 1\nserial 6\n";
+        assert_eq!(print_card(&card), text.as_bytes());
+        assert_eq!(print_card(&card[..11]), b"refused 10\n");
     }
 }

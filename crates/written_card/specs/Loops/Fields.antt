@@ -1,12 +1,12 @@
 -- Fields that fit the card, and a card put into some memory. Assumes nothing.
 use mathlib.Core.Bool.{true}
-use mathlib.Core.List.{List, [], _∷_}
+use mathlib.Core.List.{List, [], _∷_, _++_}
 use mathlib.Core.Path.{_≡_}
 use Prim.Native.Nat.{ℕ, _+_, _-_, _*_, _^_, _≤_, _<_}
 use Rattle.bits.specs.Bits.{bitAt, byteOf}
 use Rattle.refusal.specs.Outcome.{Outcome, outcome}
 use Rattle.card.specs.declared.Card.{Card}
-use Rattle.card.specs.Card.{cardBytes, copyCode, packed}
+use Rattle.card.specs.Card.{cardBytes, copyCode, packed, firstFields}
 use Rattle.card.specs.Entries.{isVersion}
 use Rattle.written_card.specs.Entries.{putRows, putInto}
 
@@ -24,11 +24,10 @@ pub record Fitting (c : Card) : Type 0 where
   pub blocks-to : c .blocks ≤ 4
   pub copies : copyCode (c .copies) < 6
 
--- what stands before the serial in version 2: version, band, kind, rate, modulation, taps, spare, blocks less one, copy code and padding
+-- what stands before the serial in version 2
 abbrev pub headOf : Card → ℕ
 headOf c =
-    packed (4 ∷ 2 ∷ 3 ∷ 1 ∷ 2 ∷ 11 ∷ 1 ∷ 2 ∷ 3 ∷ 3 ∷ [])
-    (c .version ∷ c .band ∷ c .kind ∷ c .rate ∷ c .modulation ∷ c .taps ∷ c .spare ∷ (c .blocks - 1) ∷ copyCode (c .copies) ∷ 0 ∷ []) 0
+    packed (4 ∷ 2 ∷ 3 ∷ 1 ∷ 2 ∷ 11 ∷ 1 ∷ 2 ∷ 3 ∷ 3 ∷ []) (firstFields c ++ ((c .blocks - 1) ∷ copyCode (c .copies) ∷ 0 ∷ [])) 0
 
 -- byte i of a card whose head has so many bytes
 unfoldable pub cardByte : ℕ → ℕ → ℕ → ℕ → ℕ

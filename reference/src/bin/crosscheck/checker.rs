@@ -242,6 +242,20 @@ impl Checker {
         );
     }
 
+    pub fn card_move(&mut self, card: &[u8], version: u64, room: usize) -> (Report, Vec<u8>) {
+        let call = Call {
+            name: "hplc_card_move",
+            numbers: &[version],
+            inputs: &[card],
+            room,
+        };
+        self.check(
+            &call,
+            |out| interface::card_move(card, version, out),
+            |core, lent, out, value| core.card_move(lent[0].contents(), version, out, value),
+        )
+    }
+
     pub fn card_text(&mut self, card: &[u8], room: usize) {
         let call = Call {
             name: "hplc_card_text",

@@ -1,12 +1,14 @@
 //! Frame control and payload: sent and read, with good and bad cards, lengths, rooms and items.
 
-use reference::card::CARD_BYTES;
+use reference::card::Version;
 use reference::carriers::BANDS;
 use reference::cases::{altered_and_lost, frame_controls, modes, Mode, Random, Reception, AMPLE};
 use reference::interface::Entry;
 use reference::Report;
 
-use crate::cards::{all_lengths, any_card, any_room, card_with};
+use crate::cards::{
+    all_bytes_3, all_lengths, all_lengths_and_versions, any_card, any_room, any_version, card_with,
+};
 use crate::checker::Checker;
 
 /// Taps of the systematic calls: none, all, each alone, and some mixed.
@@ -40,10 +42,22 @@ fn any_block(length: usize, random: &mut Random) -> Vec<u8> {
     block
 }
 
-/// A reception of any mode, as it was sent.
+/// A mode's card of either version, with any taps and serial.
+fn any_card_of(mode: Mode, random: &mut Random) -> Vec<u8> {
+    let version = any_version(random);
+    mode.card_of(version, any_taps(random), random.word_of_any_size())
+}
+
+/// A reception of any mode with a card of either version, as it was sent.
 fn any_reception(random: &mut Random) -> Reception {
     let mode = any_mode(random);
-    let card = mode.card(any_taps(random), random.word_of_any_size());
+    let card = any_card_of(mode, random);
+    Reception::new(mode, card, any_block(mode.bytes(), random))
+}
+
+/// A reception of a mode with a card of version 2, as it was sent.
+fn second_reception(mode: Mode, random: &mut Random) -> Reception {
+    let card = mode.card_of(Version::Two, any_taps(random), random.word());
     Reception::new(mode, card, any_block(mode.bytes(), random))
 }
 
@@ -93,25 +107,42 @@ fn card_at(checker: &mut Checker, entry: Entry, card: &[u8], room: usize) {
     checker.entry(entry, card, &input, room);
 }
 
-/// At each entry every mode that fits its bits, every version and spare bit, every length.
+/// At each entry in both layouts every mode that fits its bits, every version and spare bit; then
+/// every length, every length with some versions, and every fourth byte.
 pub fn cards_systematic(checker: &mut Checker) {
     for entry in Entry::ALL {
-        for mode in 0..256 {
-            let card = card_with(1, mode, 0, &mut checker.random);
-            card_at(checker, entry, &card, AMPLE);
-        }
-        for version in 0..16 {
-            for spare in 0..2 {
-                // Kind 0 with QPSK, and kind 1 with QPSK.
-                for mode in [1, 9] {
-                    let card = card_with(version, mode, spare, &mut checker.random);
-                    card_at(checker, entry, &card, AMPLE);
+        for layout in Version::ALL {
+            for mode in 0..256 {
+                let version = layout.number();
+                let card = card_with(layout, version, mode, 0, &mut checker.random);
+                card_at(checker, entry, &card, AMPLE);
+            }
+            for version in 0..16 {
+                for spare in 0..2 {
+                    // Kind 0 with QPSK, and kind 1 with QPSK.
+                    for mode in [1, 9] {
+                        let random = &mut checker.random;
+                        let card = card_with(layout, version, mode, spare, random);
+                        card_at(checker, entry, &card, AMPLE);
+                    }
                 }
             }
         }
-        for card in all_lengths(&mut checker.random) {
+        let mut cards = all_lengths(&mut checker.random);
+        cards.extend(all_lengths_and_versions(&mut checker.random));
+        let mode = served_by(entry);
+        cards.extend(all_bytes_3(Version::Two, mode, &mut checker.random));
+        for card in cards {
             card_at(checker, entry, &card, AMPLE);
         }
+    }
+}
+
+/// A mode that an entry serves.
+const fn served_by(entry: Entry) -> Mode {
+    match entry {
+        Entry::FcSend | Entry::FcRead => Mode::frame_control(0),
+        Entry::PayloadSend | Entry::PayloadRead => Mode::new(0, 1, 0, 1),
     }
 }
 
@@ -151,6 +182,10 @@ pub fn lengths_systematic(checker: &mut Checker) {
             for room in [0, 1, needed / 2, needed - 1, needed, needed + 1, AMPLE] {
                 checker.entry(entry, &card, &vec![0; right], room);
             }
+            let random = &mut checker.random;
+            let second = mode.card_of(Version::Two, any_taps(random), random.word());
+            checker.entry(entry, &second, &vec![0; right], needed - 1);
+            checker.entry(entry, &second, &vec![0; right + 1], needed);
         }
     }
 }
@@ -176,7 +211,7 @@ pub fn lengths_random(checker: &mut Checker) {
     let (right, needed) = lengths(mode, entry);
     let length = any_length(entry, right, random);
     let input = any_input(entry, length, random);
-    let card = mode.card(any_taps(random), random.word());
+    let card = any_card_of(mode, random);
     let room = any_room(needed, random);
     checker.entry(entry, &card, &input, room);
 }
@@ -197,6 +232,8 @@ pub fn sending_systematic(checker: &mut Checker) {
             let entry = mode.entries().0;
             checker.entry(entry, &mode.card(taps, 0), &block, mode.items());
         }
+        let Reception { card, block, .. } = second_reception(mode, &mut checker.random);
+        checker.entry(mode.entries().0, &card, &block, mode.items());
     }
 }
 
@@ -204,7 +241,7 @@ pub fn sending_random(checker: &mut Checker) {
     let random = &mut checker.random;
     let mode = any_mode(random);
     let block = any_block(mode.bytes(), random);
-    let card = mode.card(any_taps(random), random.word_of_any_size());
+    let card = any_card_of(mode, random);
     let room = any_room(mode.items(), random);
     checker.entry(mode.entries().0, &card, &block, room);
 }
@@ -230,6 +267,8 @@ pub fn clean_systematic(checker: &mut Checker) {
             let card = mode.card(taps, checker.random.word());
             there_and_back(checker, &Reception::new(mode, card, block));
         }
+        let second = second_reception(mode, &mut checker.random);
+        there_and_back(checker, &second);
     }
 }
 
@@ -268,6 +307,9 @@ pub fn illegal_systematic(checker: &mut Checker) {
             spoilt.items[index] = no_item(&mut checker.random);
             read(checker, &spoilt);
         }
+        let mut second = second_reception(mode, &mut checker.random);
+        second.items[last] = no_item(&mut checker.random);
+        read(checker, &second);
     }
 }
 
@@ -307,6 +349,10 @@ pub fn limit_systematic(checker: &mut Checker) {
         } else {
             limit_of_pad(checker, &reception);
         }
+        // The first bit has two copies or more in every mode.
+        let mut second = second_reception(mode, &mut checker.random);
+        second.tie_bit(0, &mut checker.random);
+        read(checker, &second);
     }
 }
 
@@ -359,7 +405,7 @@ pub fn limit_random(checker: &mut Checker) {
 fn made_by_library(checker: &mut Checker) -> Option<Reception> {
     let random = &mut checker.random;
     let mode = Mode::frame_control(random.below(BANDS.len()) as u8);
-    let card = mode.card(any_taps(random), random.word());
+    let card = any_card_of(mode, random);
     let block = any_block(mode.bytes(), random);
     let room = mode.items() + random.below(3);
     let (report, mut sent) = checker.entry(Entry::FcSend, &card, &block, room);
@@ -446,6 +492,8 @@ pub fn lost_bit_systematic(checker: &mut Checker) {
         for bit in mode.rarest_bits() {
             lose_all_copies(checker, reception.clone(), bit);
         }
+        let second = second_reception(mode, &mut checker.random);
+        lose_all_copies(checker, second, mode.rarest_bits()[0]);
     }
 }
 
@@ -503,6 +551,9 @@ pub fn undecided_systematic(checker: &mut Checker) {
         let mut all_lost = reception.clone();
         all_lost.items.fill(2);
         read(checker, &all_lost);
+        let mut second = second_reception(mode, &mut checker.random);
+        second.lose_bit(some);
+        read(checker, &second);
     }
 }
 
@@ -533,6 +584,9 @@ pub fn parity_systematic(checker: &mut Checker) {
                 read(checker, &damaged);
             }
         }
+        let mut second = second_reception(mode, &mut checker.random);
+        second.flip_bit(parity[0]);
+        read(checker, &second);
     }
 }
 
@@ -575,7 +629,10 @@ pub fn any_items_random(checker: &mut Checker) {
                 }
             }
         }
-        _ => reception.card[1 + random.below(CARD_BYTES - 1)] ^= 1 << random.below(8),
+        _ => {
+            let index = random.within(1..reception.card.len());
+            reception.card[index] ^= 1 << random.below(8);
+        }
     }
     read(checker, &reception);
 }

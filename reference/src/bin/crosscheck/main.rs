@@ -42,7 +42,7 @@ const fn area(name: &'static str, systematic: Calls, random: Calls, weight: usiz
 /// For an area whose calls are all random.
 fn nothing(_: &mut Checker) {}
 
-const AREAS: [Area; 18] = [
+const AREAS: [Area; 19] = [
     area("card read", cards::read_systematic, cards::read_random, 3),
     area(
         "card write",
@@ -51,6 +51,7 @@ const AREAS: [Area; 18] = [
         3,
     ),
     area("card text", cards::text_systematic, cards::text_random, 3),
+    area("card move", cards::move_systematic, cards::move_random, 3),
     area("map", points::map_systematic, points::map_random, 2),
     area("slice", points::slice_systematic, points::slice_random, 4),
     area(

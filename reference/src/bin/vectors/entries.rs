@@ -1,36 +1,58 @@
 //! The records of entries.bin: what they cover, and in which order. The same on every run.
 
-use reference::card::{self, pack, Fields};
+use reference::card::{self, pack, Fields, Version};
 use reference::cases::{
     all_bits, altered_and_lost, frame_controls, modes, Mode, Random, Reception, AMPLE, EXAMPLE,
+    SECOND_EXAMPLE,
 };
 use reference::interface::{Entry, CARD_FIELDS, COORDINATES};
 
 use crate::labelled;
-use crate::record::{slice_card, Call, Record};
+use crate::record::{slice_card, write_card, Call, Record};
 use crate::text::{coordinates, modulations};
 
 const SEED: u64 = 11612;
+/// The seed of the records for the second card.
+const SECOND_SEED: u64 = 2;
 
 /// Taps that the modes use in turn.
 const TAPS: [u16; 7] = [1095, 2047, 682, 1365, 731, 0, 1234];
+
+/// The modes whose cards of version 2 are sent and read in every way.
+const SECOND_MODES: [Mode; 2] = [Mode::frame_control(3), Mode::new(2, 1, 0, 2)];
+
+/// Room for any printed card.
+const TEXT_ROOM: usize = 200;
+
+/// Versions asked for: both, and some that are none.
+const ASKED: [u64; 7] = [1, 2, 0, 3, 16, (1 << 32) + 1, u64::MAX];
 
 /// All records, the labelled ones first.
 pub fn records() -> Vec<Record> {
     let mut maker = Maker {
         records: labelled::records(),
         random: Random::new(SEED),
+        second: Random::new(SECOND_SEED),
     };
     for (n, mode) in modes().into_iter().enumerate() {
-        maker.mode(mode, TAPS[n % TAPS.len()]);
+        maker.mode(Version::One, mode, TAPS[n % TAPS.len()]);
     }
+    maker.for_second_card(|maker| {
+        for (mode, taps) in SECOND_MODES.into_iter().zip(TAPS) {
+            maker.mode(Version::Two, mode, taps);
+        }
+    });
     for mode in frame_controls() {
         maker.demand_3(mode);
         maker.without_taps(mode);
     }
     maker.without_taps(modes()[1]);
     maker.cards_at_the_entries();
+    maker.for_second_card(Maker::second_cards_at_the_entries);
     maker.cards();
+    maker.for_second_card(Maker::second_cards);
+    maker.for_second_card(Maker::cards_written);
+    maker.for_second_card(Maker::cards_moved);
     maker.points();
     maker.slices();
     maker.records
@@ -40,6 +62,8 @@ pub fn records() -> Vec<Record> {
 struct Maker {
     records: Vec<Record>,
     random: Random,
+    /// The numbers for the second card.
+    second: Random,
 }
 
 impl Maker {
@@ -47,9 +71,17 @@ impl Maker {
         self.records.push(Record::new("", call, card, input, room));
     }
 
+    /// Records for the second card. They have numbers of their own, so that the others stay as they
+    /// were without them.
+    fn for_second_card(&mut self, make: impl FnOnce(&mut Maker)) {
+        std::mem::swap(&mut self.random, &mut self.second);
+        make(self);
+        std::mem::swap(&mut self.random, &mut self.second);
+    }
+
     /// A mode: sent, and read in each way.
-    fn mode(&mut self, mode: Mode, taps: u16) {
-        let card = mode.card(taps, self.random.word());
+    fn mode(&mut self, version: Version, mode: Mode, taps: u16) {
+        let card = mode.card_of(version, taps, self.random.word());
         let block = self.random.bytes(mode.bytes());
         let reception = Reception::new(mode, card, block);
         self.sent(&reception);
@@ -148,23 +180,12 @@ impl Maker {
 
     /// Cards that each entry refuses, with an input and a room that are wrong besides.
     fn cards_at_the_entries(&mut self) {
-        for (entry, mode) in [
-            (Entry::FcSend, Mode::frame_control(0)),
-            (Entry::FcRead, Mode::frame_control(1)),
-            (Entry::PayloadSend, Mode::new(2, 1, 0, 0)),
-            (Entry::PayloadRead, Mode::new(3, 2, 0, 0)),
-        ] {
+        for (entry, mode) in AT_THE_ENTRIES {
             let call = Call::Entry(entry);
-            for card in spoilt_cards(mode.fields(731, 99)) {
+            for card in spoilt_cards(mode.fields(Version::One, 731, 99)) {
                 self.add(call, &card, &[7; 5], 3);
             }
-            // A card that the entry does not serve.
-            let other = if mode.kind == 0 {
-                modes()[1]
-            } else {
-                Mode::frame_control(0)
-            };
-            self.add(call, &other.card(731, 99), &[0; 16], AMPLE);
+            self.add(call, &not_served(mode, Version::One), &[0; 16], AMPLE);
             for length in 0..=40 {
                 let card = self.random.bytes(length);
                 self.add(call, &card, &[0; 16], AMPLE);
@@ -172,13 +193,28 @@ impl Maker {
         }
     }
 
+    /// The same of cards of version 2, and of those that are refused because there are two.
+    fn second_cards_at_the_entries(&mut self) {
+        for (entry, mode) in AT_THE_ENTRIES {
+            let call = Call::Entry(entry);
+            for card in second_spoilt_cards(mode.fields(Version::Two, 731, 99)) {
+                self.add(call, &card, &[7; 5], 3);
+            }
+            self.add(call, &not_served(mode, Version::Two), &[0; 16], AMPLE);
+        }
+    }
+
+    /// A card read with exact room, and printed.
+    fn card(&mut self, card: &[u8], text_room: usize) {
+        self.add(Call::CardRead, card, &[], CARD_FIELDS);
+        self.add(Call::CardText, card, &[], text_room);
+    }
+
     /// Cards read and printed.
     fn cards(&mut self) {
-        let good = good_cards(&mut self.random);
+        let good = good_cards(Version::One, &mut self.random);
         for card in &good {
-            let text = card::text(card).len();
-            self.add(Call::CardRead, card, &[], CARD_FIELDS);
-            self.add(Call::CardText, card, &[], text);
+            self.card(card, card::text(card).len());
         }
         for room in [0, 7, 9, 20] {
             self.add(Call::CardRead, &good[0], &[], room);
@@ -188,16 +224,115 @@ impl Maker {
             self.add(Call::CardText, &good[0], &[], room);
         }
         let mut bad = spoilt_cards(EXAMPLE);
-        bad.extend(all_modes());
+        bad.extend(all_modes(Version::One));
         bad.extend((0..=64).map(|length| self.random.bytes(length)));
         for card in &bad {
-            self.add(Call::CardRead, card, &[], CARD_FIELDS);
-            self.add(Call::CardText, card, &[], 200);
+            self.card(card, TEXT_ROOM);
         }
         self.add(Call::CardRead, &bad[0], &[], 0);
         for room in [9, 10, 11] {
             self.add(Call::CardText, &bad[0], &[], room);
         }
+    }
+
+    /// Cards of version 2 read and printed, those that are refused because there are two, and rooms
+    /// about the ten fields.
+    fn second_cards(&mut self) {
+        let good = good_cards(Version::Two, &mut self.random);
+        for card in &good {
+            self.card(card, card::text(card).len());
+        }
+        let first = pack(&EXAMPLE, Version::One);
+        for card in [&first, &good[0]] {
+            for room in [8, 10, 11] {
+                self.add(Call::CardRead, card, &[], room);
+            }
+        }
+        let text = card::text(&good[0]).len();
+        for room in [0, text - 1, text + 1] {
+            self.add(Call::CardText, &good[0], &[], room);
+        }
+        let mut bad = second_spoilt_cards(SECOND_EXAMPLE);
+        bad.extend(all_modes(Version::Two));
+        bad.extend(all_bytes_3(SECOND_EXAMPLE));
+        for card in &bad {
+            self.card(card, TEXT_ROOM);
+        }
+        // A refusal by 10 is a byte longer than the others.
+        for room in [10, 11, 12] {
+            self.add(Call::CardText, &good[0][..11], &[], room);
+        }
+    }
+
+    /// A card of each mode and version written, then every count about its ends.
+    fn cards_written(&mut self) {
+        for mode in modes() {
+            for version in Version::ALL {
+                let (taps, serial) = (self.random.below(2048) as u16, self.random.word());
+                let room = version.bytes() + self.random.below(2);
+                self.write(&mode.fields(version, taps, serial), room);
+            }
+        }
+        for version in [1, 2] {
+            for mode in [Mode::frame_control(0), Mode::new(0, 4, 1, 1)] {
+                let good = Fields {
+                    version,
+                    ..mode.fields(Version::One, 731, 99)
+                };
+                for blocks in 0..=6 {
+                    self.write(&Fields { blocks, ..good }, 12);
+                }
+                for copies in 0..=13 {
+                    self.write(&Fields { copies, ..good }, 12);
+                }
+            }
+        }
+    }
+
+    fn write(&mut self, fields: &Fields, room: usize) {
+        self.add(Call::CardWrite, &write_card(fields), &[], room);
+    }
+
+    /// A card of each mode and version moved to both, rooms, then cards and versions that are
+    /// refused.
+    fn cards_moved(&mut self) {
+        for mode in modes() {
+            for version in Version::ALL {
+                let (taps, serial) = (self.random.below(2048) as u16, self.random.word());
+                let card = mode.card_of(version, taps, serial);
+                for asked in Version::ALL {
+                    let room = asked.bytes() + self.random.below(2);
+                    self.move_to(&card, asked.number(), room);
+                }
+            }
+        }
+        let examples = [
+            pack(&EXAMPLE, Version::One),
+            pack(&SECOND_EXAMPLE, Version::Two),
+        ];
+        for card in &examples {
+            for asked in ASKED {
+                for room in [0, 10, 11, 12, 13] {
+                    self.move_to(card, asked, room);
+                }
+            }
+        }
+        let mut bad = spoilt_cards(EXAMPLE);
+        bad.extend(second_spoilt_cards(SECOND_EXAMPLE));
+        bad.extend((0..=40).map(|length| self.random.bytes(length)));
+        for card in &bad {
+            for asked in [1, 2, 3] {
+                self.move_to(card, asked, 12);
+            }
+        }
+        for card in all_bytes_3(SECOND_EXAMPLE) {
+            let asked = self.random.pick(&[1, 2]);
+            self.move_to(&card, asked, 12);
+        }
+    }
+
+    fn move_to(&mut self, card: &[u8], version: u64, room: usize) {
+        self.add(Call::CardMove, card, &version.to_be_bytes(), room);
     }
 
     /// Every point, then bits that are illegal, too few or too many, and rooms.
@@ -304,22 +439,43 @@ fn illegal(reception: &mut Reception, random: &mut Random) {
     }
 }
 
-/// Two good cards of each mode.
-fn good_cards(random: &mut Random) -> Vec<Vec<u8>> {
+/// The entries, each with a mode that it serves.
+const AT_THE_ENTRIES: [(Entry, Mode); 4] = [
+    (Entry::FcSend, Mode::frame_control(0)),
+    (Entry::FcRead, Mode::frame_control(1)),
+    (Entry::PayloadSend, Mode::new(2, 1, 0, 0)),
+    (Entry::PayloadRead, Mode::new(3, 2, 0, 0)),
+];
+
+/// A card that a mode's entries don't serve.
+fn not_served(mode: Mode, version: Version) -> Vec<u8> {
+    let other = if mode.kind == 0 {
+        modes()[1]
+    } else {
+        Mode::frame_control(0)
+    };
+    other.card_of(version, 731, 99)
+}
+
+/// The example and two good cards of each mode.
+fn good_cards(version: Version, random: &mut Random) -> Vec<Vec<u8>> {
     let serials = [0, 9, 10, u64::MAX, EXAMPLE.serial];
-    let mut cards = vec![pack(&EXAMPLE).to_vec()];
+    let example = Fields {
+        version: version.number(),
+        ..EXAMPLE
+    };
+    let mut cards = vec![pack(&example, version)];
     for mode in modes() {
         let (taps, serial) = (random.below(2048) as u16, random.word_of_any_size());
-        cards.push(mode.card(taps, serial).to_vec());
+        cards.push(mode.card_of(version, taps, serial));
         let (taps, serial) = (random.pick(&TAPS), random.pick(&serials));
-        cards.push(mode.card(taps, serial).to_vec());
+        cards.push(mode.card_of(version, taps, serial));
     }
     cards
 }
 
-/// A good card spoilt in each way that has a number: 10 and 12 bytes, versions, the spare bit,
-/// kind 5 to 7, modulation 3.
-fn spoilt_cards(good: Fields) -> Vec<Vec<u8>> {
+/// Good fields with every version, the spare bit, kinds 5 to 7 and modulation 3, in a layout.
+fn spoilt_fields(good: Fields, layout: Version) -> Vec<Vec<u8>> {
     let mut spoilt: Vec<Fields> = (0..16).map(|version| Fields { version, ..good }).collect();
     spoilt.push(Fields { spare: 1, ..good });
     spoilt.extend((5..8).map(|kind| Fields { kind, ..good }));
@@ -327,15 +483,65 @@ fn spoilt_cards(good: Fields) -> Vec<Vec<u8>> {
         modulation: 3,
         ..good
     });
-    let card = pack(&good);
+    spoilt.iter().map(|fields| pack(fields, layout)).collect()
+}
+
+/// A good card of version 1 spoilt in each way that has a number: 10 and 12 bytes, none, and its
+/// fields.
+fn spoilt_cards(good: Fields) -> Vec<Vec<u8>> {
+    let card = pack(&good, Version::One);
     let mut cards = vec![card[..10].to_vec(), [&card[..], &[0]].concat(), Vec::new()];
-    cards.extend(spoilt.iter().map(|fields| pack(fields).to_vec()));
+    cards.extend(spoilt_fields(good, Version::One));
     cards
 }
 
+/// A good card of version 2 spoilt likewise: 10, 11 and 13 bytes, its fields, the spare bit where
+/// version and length disagree, then fourth bytes with counts, codes and padding, some of them with
+/// version 1.
+fn second_spoilt_cards(good: Fields) -> Vec<Vec<u8>> {
+    let card = pack(&good, Version::Two);
+    let mut cards: Vec<Vec<u8>> = [10, 11].map(|length| card[..length].to_vec()).into();
+    cards.push([&card[..], &[0]].concat());
+    cards.extend(spoilt_fields(good, Version::Two));
+    let spare = Fields { spare: 1, ..good };
+    let spare_of_first = Fields {
+        version: 1,
+        ..spare
+    };
+    cards.push(pack(&spare, Version::One));
+    cards.push(pack(&spare_of_first, Version::Two));
+    let first = Fields { version: 1, ..good };
+    for (fields, bytes) in [
+        (
+            good,
+            &[0x08, 0x28, 0x30, 0x38, 0x40, 0xC0, 0x01, 0x02, 0x04, 0x3F][..],
+        ),
+        (first, &[0x01, 0x38, 0xFF]),
+    ] {
+        cards.extend(bytes.iter().map(|&byte| with_byte_3(fields, byte)));
+    }
+    cards
+}
+
+/// Twelve bytes with any fourth one.
+fn with_byte_3(fields: Fields, byte: u8) -> Vec<u8> {
+    let mut card = pack(&fields, Version::Two);
+    card[3] = byte;
+    card
+}
+
+/// Every fourth byte.
+fn all_bytes_3(fields: Fields) -> Vec<Vec<u8>> {
+    (0..=255).map(|byte| with_byte_3(fields, byte)).collect()
+}
+
 /// Every mode that fits its bits, defined or not.
-fn all_modes() -> Vec<Vec<u8>> {
-    let card = |mode: u8| vec![0x10 | mode >> 4, mode << 4, 6, 0, 0, 0, 0, 0, 0, 1, 2];
+fn all_modes(version: Version) -> Vec<Vec<u8>> {
+    let card = |mode: u8| {
+        let head = [(version.number() as u8) << 4 | mode >> 4, mode << 4, 6];
+        let rest = vec![0; version.bytes() - 5];
+        [&head[..], &rest, &[1, 2]].concat()
+    };
     (0..=255).map(card).collect()
 }
 
@@ -348,7 +554,7 @@ mod tests {
     #[test]
     fn the_file_is_small_and_the_same_on_every_run() {
         let bytes = to_bytes(&records());
-        assert!(bytes.len() < 5_600_000, "{} bytes", bytes.len());
+        assert!(bytes.len() < 6_000_000, "{} bytes", bytes.len());
         assert!(bytes == to_bytes(&records()));
     }
 
@@ -364,16 +570,17 @@ mod tests {
             .iter()
             .map(|record| (record.call.number(), record.number))
             .collect();
-        let numbers: [&[u8]; 9] = [
-            &[0, 1, 2, 3, 4, 5],
-            &[0, 1, 2, 3, 4, 5, 6, 7, 8],
-            &[0, 1, 2, 3, 4, 5],
-            &[0, 1, 2, 3, 4, 5, 6, 7, 8],
-            &[0, 1, 2, 3, 5],
+        let numbers: [&[u8]; 10] = [
+            &[0, 1, 2, 10, 3, 4, 5],
+            &[0, 1, 2, 10, 3, 4, 5, 6, 7, 8],
+            &[0, 1, 2, 10, 3, 4, 5],
+            &[0, 1, 2, 10, 3, 4, 5, 6, 7, 8],
+            &[0, 1, 2, 10, 3, 5],
             &[0, 5],
             &[0, 3, 4, 5, 6],
             &[0, 3, 5],
             &[0, 2, 3, 5],
+            &[0, 1, 2, 10, 3, 5],
         ];
         let expected: HashSet<(u8, u8)> = numbers
             .iter()
@@ -410,6 +617,26 @@ mod tests {
             for number in [0, 4, 6, 7, 8] {
                 assert!(numbers.contains(&number), "{mode:?} {number}");
             }
+        }
+    }
+
+    #[test]
+    fn cards_of_version_2_are_sent_and_read_in_each_way() {
+        let records = records();
+        let second = |record: &&Record| record.card.len() == Version::Two.bytes();
+        for (entry, expected) in [
+            (Entry::FcSend, &[0, 2, 10, 3, 4, 5][..]),
+            (Entry::FcRead, &[0, 2, 10, 3, 4, 5, 6, 7, 8]),
+            (Entry::PayloadSend, &[0, 2, 10, 3, 4, 5]),
+            (Entry::PayloadRead, &[0, 2, 10, 3, 4, 5, 6, 7, 8]),
+        ] {
+            let numbers: HashSet<u8> = records
+                .iter()
+                .filter(|record| record.call == Call::Entry(entry))
+                .filter(second)
+                .map(|record| record.number)
+                .collect();
+            assert_eq!(numbers, expected.iter().copied().collect(), "{entry:?}");
         }
     }
 }

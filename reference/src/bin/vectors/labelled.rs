@@ -1,15 +1,18 @@
-//! The labelled records: the cases that 01 wants run by a program ("Bench checks"), and slices
-//! about the edges of what is lost (02, T-02), each under a name to look for.
+//! The labelled records: the cases that 01 wants run by a program ("Bench checks"), for both
+//! versions of the card (02, T-03), and slices about the edges of what is lost (02, T-02), each
+//! under a name to look for.
 
-use reference::card::{pack, Fields, CARD_BYTES};
-use reference::cases::{modes, Mode, Random, Reception, EXAMPLE, MODULATION_NAMES};
+use reference::card::{self, pack, Fields, Version};
+use reference::cases::{
+    frame_controls, modes, Mode, Random, Reception, EXAMPLE, MODULATION_NAMES, SECOND_EXAMPLE,
+};
 use reference::interface::{Entry, CARD_FIELDS};
 use reference::points::{
     BPSK, BPSK_EIGHTH, BPSK_FACTOR, QAM16, QAM16_EIGHTH, QAM16_FACTOR, QAM16_HIGH_END,
     QAM16_LOW_END, QPSK, QPSK_EIGHTH, QPSK_FACTOR,
 };
 
-use crate::record::{slice_card, Call, Record};
+use crate::record::{slice_card, write_card, Call, Record};
 
 const SEED: u64 = 1;
 
@@ -24,20 +27,40 @@ const FRAME_CONTROL: Mode = Mode::frame_control(0);
 const PAYLOAD: Mode = Mode::new(0, 1, 0, 1);
 /// The mode of check P12: 4,680 coded bits and a pad of 252.
 const PADDED: Mode = Mode::new(0, 4, 1, 1);
+/// The payloads with cards of version 2: each kind and rate once, on any band and modulation.
+const SECOND_PAYLOADS: [Mode; 5] = [
+    PAYLOAD,
+    Mode::new(1, 2, 0, 2),
+    Mode::new(2, 3, 0, 0),
+    Mode::new(3, 4, 0, 1),
+    PADDED,
+];
 
 /// All labelled records.
 pub fn records() -> Vec<Record> {
     let mut cases = Cases(Vec::new());
     cases.cards_read();
+    cases.second_cards_read();
     cases.cards_printed();
+    cases.second_cards_printed();
     cases.cards_written();
-    for mode in [FRAME_CONTROL, PAYLOAD] {
-        for good in both_ways(mode) {
-            cases.cards_at(&good);
-        }
+    cases.second_cards_written();
+    cases.cards_moved();
+    cases.cards_not_moved();
+    let entries = [FRAME_CONTROL, PAYLOAD].map(|mode| both_ways(Version::One, mode));
+    for good in entries.as_flattened() {
+        cases.cards_at(good);
+    }
+    for good in entries.as_flattened() {
+        cases.second_cards_at(good);
     }
     for mode in modes() {
-        for good in both_ways(mode) {
+        for good in both_ways(Version::One, mode) {
+            cases.lengths_and_rooms(&good);
+        }
+    }
+    for mode in frame_controls().chain(SECOND_PAYLOADS) {
+        for good in both_ways(Version::Two, mode) {
             cases.lengths_and_rooms(&good);
         }
     }
@@ -65,6 +88,8 @@ const NAMES: [&str; CARD_FIELDS] = [
     "taps",
     "spare",
     "serial",
+    "blocks",
+    "copies",
 ];
 const VERSION: usize = 0;
 const BAND: usize = 1;
@@ -74,7 +99,10 @@ const MODULATION: usize = 4;
 const TAPS: usize = 5;
 const SPARE: usize = 6;
 const SERIAL: usize = 7;
+const BLOCKS: usize = 8;
+const COPIES: usize = 9;
 
+/// What eleven bytes are refused for.
 const REFUSED: [&[Change]; 8] = [
     &[(VERSION, 0)],
     &[(VERSION, 2)],
@@ -106,6 +134,11 @@ const TAKEN: [&[Change]; 8] = [
     &[(SERIAL, u64::MAX)],
 ];
 
+/// All of these: the values fit their bits.
+fn fitting() -> impl Iterator<Item = &'static [Change]> {
+    REFUSED.into_iter().chain(NOT_TOGETHER).chain(TAKEN)
+}
+
 const TOO_LARGE: [&[Change]; 7] = [
     &[(VERSION, 17)],
     &[(BAND, 4)],
@@ -115,6 +148,61 @@ const TOO_LARGE: [&[Change]; 7] = [
     &[(TAPS, 2048)],
     &[(SPARE, 2)],
 ];
+
+/// The same because of the second card: version 2 with something that goes before it or behind it,
+/// and the first version that is none.
+const REFUSED_ON_11_BYTES: [&[Change]; 3] = [
+    &[(VERSION, 2), (SPARE, 1)],
+    &[(VERSION, 2), (KIND, 5)],
+    &[(VERSION, 3)],
+];
+
+/// What twelve bytes are refused for. They are of version 2 where nothing else is said.
+const REFUSED_ON_12_BYTES: [&[Change]; 10] = [
+    &[(VERSION, 1), (SPARE, 1)],
+    &[(VERSION, 1), (KIND, 5)],
+    &[(VERSION, 0)],
+    &[(VERSION, 3)],
+    &[(SPARE, 1)],
+    &[(SPARE, 1), (KIND, 5)],
+    &[(KIND, 5)],
+    &[(KIND, 6)],
+    &[(KIND, 7)],
+    &[(MODULATION, 3)],
+];
+
+/// Fourth bytes of version 2 that are refused: all copy codes and block counts that say more than
+/// one or nothing, each bit of the padding, and padding beside a code.
+const REFUSED_BYTES_3: [u8; 14] = [
+    0x08, 0x10, 0x18, 0x20, 0x28, 0x30, 0x38, 0x40, 0x80, 0xC0, 0x01, 0x02, 0x04, 0x39,
+];
+
+/// Counts that are not one: not defined, or said by no bits of theirs.
+const OTHER_COUNTS: [&[Change]; 20] = [
+    &[(BLOCKS, 0)],
+    &[(BLOCKS, 2)],
+    &[(BLOCKS, 3)],
+    &[(BLOCKS, 4)],
+    &[(BLOCKS, 5)],
+    &[(BLOCKS, (1 << 32) + 1)],
+    &[(BLOCKS, u64::MAX)],
+    &[(COPIES, 0)],
+    &[(COPIES, 2)],
+    &[(COPIES, 3)],
+    &[(COPIES, 4)],
+    &[(COPIES, 5)],
+    &[(COPIES, 6)],
+    &[(COPIES, 7)],
+    &[(COPIES, 8)],
+    &[(COPIES, 11)],
+    &[(COPIES, 12)],
+    &[(COPIES, (1 << 32) + 1)],
+    &[(COPIES, u64::MAX)],
+    &[(BLOCKS, 4), (COPIES, 11)],
+];
+
+/// Versions asked for that are none, some with the low bits of one.
+const NO_VERSIONS: [u64; 8] = [0, 3, 15, 16, 17, 18, (1 << 32) + 1, u64::MAX];
 
 /// The example at rate 1/2, so that a kind which is refused is refused for itself.
 const GOOD: Fields = Fields { rate: 0, ..EXAMPLE };
@@ -133,12 +221,100 @@ fn changed(good: Fields, changes: &[Change]) -> (String, Fields) {
     (label, Fields::from_array(fields))
 }
 
-/// A card cut, or with zeros after it, and its name.
-fn card_of(length: usize, card: [u8; CARD_BYTES]) -> (String, Vec<u8>) {
-    let mut card = card.to_vec();
+/// A card by its bytes, and its name.
+type Named = (String, Vec<u8>);
+
+/// A card of version 1 cut, or with zeros after it. Its version is named where the length is one of
+/// version 2.
+fn card_of(length: usize, mut card: Vec<u8>) -> Named {
     card.resize(length, 0);
-    (format!("card of {length} bytes"), card)
+    let label = if length == Version::Two.bytes() {
+        format!("version 1 on {length} bytes")
+    } else {
+        format!("card of {length} bytes")
+    };
+    (label, card)
 }
+
+/// The bytes that changes make of a good card in a layout, named with their number. They are of the
+/// layout's version where the changes say no other.
+fn on_bytes(layout: Version, good: Fields, changes: &[Change]) -> Named {
+    let version = layout.number();
+    let (label, fields) = changed(Fields { version, ..good }, changes);
+    let label = format!("{label} on {} bytes", layout.bytes());
+    (label, pack(&fields, layout))
+}
+
+/// The eleven bytes that changes make of a good card, named by the changes. Their number is named
+/// where version 2 alone would mean twelve.
+fn eleven_bytes(good: Fields, changes: &[Change]) -> Named {
+    if changes == [(VERSION, 2)] {
+        return on_bytes(Version::One, good, changes);
+    }
+    let (label, fields) = changed(good, changes);
+    (label, pack(&fields, Version::One))
+}
+
+/// A card of twelve bytes with another fourth byte.
+fn with_byte_3((label, mut card): Named, byte: u8) -> Named {
+    card[3] = byte;
+    (format!("{label}, byte 3 of {byte:02X}"), card)
+}
+
+/// Twelve bytes of a version with another fourth byte.
+fn twelve_bytes_with(version: u64, good: Fields, byte: u8) -> Named {
+    let card = on_bytes(Version::Two, good, &[(VERSION, version)]);
+    with_byte_3(card, byte)
+}
+
+/// A card of version 2 cut, or with zeros after it.
+fn second_card_of(length: usize, good: Fields) -> Named {
+    let (_, mut card) = on_bytes(Version::Two, good, &[]);
+    card.resize(length, 0);
+    (format!("version 2 on {length} bytes"), card)
+}
+
+/// Cards that are refused because there are two versions, or that are of version 2: lengths,
+/// versions, spare bits, modes and fourth bytes.
+fn second_refused() -> Vec<Named> {
+    let mut cards = vec![card_of(13, pack(&GOOD, Version::One))];
+    cards.extend([10, 13].map(|length| second_card_of(length, GOOD)));
+    let eleven = REFUSED_ON_11_BYTES.iter();
+    cards.extend(eleven.map(|changes| on_bytes(Version::One, GOOD, changes)));
+    let twelve = REFUSED_ON_12_BYTES.iter().chain(&NOT_TOGETHER);
+    cards.extend(twelve.map(|changes| on_bytes(Version::Two, GOOD, changes)));
+    cards.extend(REFUSED_BYTES_3.map(|byte| twelve_bytes_with(2, GOOD, byte)));
+    let of_first = [0x01, 0x08, 0x38, 0xC0, 0xFF];
+    cards.extend(of_first.map(|byte| twelve_bytes_with(1, GOOD, byte)));
+    let of_kind_0 = on_bytes(Version::Two, GOOD, &[(KIND, 0)]);
+    cards.extend([0x08, 0x40].map(|byte| with_byte_3(of_kind_0.clone(), byte)));
+    cards
+}
+
+/// Good cards of version 2.
+fn second_taken() -> Vec<Named> {
+    let also: [&[Change]; 2] = [&[(VERSION, 2)], &[(KIND, 0)]];
+    let taken = also.iter().chain(&TAKEN);
+    taken
+        .map(|changes| on_bytes(Version::Two, GOOD, changes))
+        .collect()
+}
+
+/// The example in both versions.
+fn examples() -> [Named; 2] {
+    [
+        ("example card", EXAMPLE, Version::One),
+        ("example card of version 2", SECOND_EXAMPLE, Version::Two),
+    ]
+    .map(|(label, fields, version)| (label.to_string(), pack(&fields, version)))
+}
+
+/// The end of a label that names the room.
+fn room_of(room: usize) -> String {
+    format!(", room of {room} bytes")
+}
+
+const NO_ROOM: &str = ", no room";
 
 // Bits by what happens to their copies.
 
@@ -242,36 +418,42 @@ struct Good {
     name: String,
     mode: Mode,
     entry: Entry,
-    card: [u8; CARD_BYTES],
+    card: Vec<u8>,
     input: Vec<u8>,
     room: usize,
 }
 
-/// The fields of a mode's card, with the example's taps and serial.
+/// The fields of a mode's card of version 1, with the example's taps and serial.
 fn fields(mode: Mode) -> Fields {
-    mode.fields(EXAMPLE.taps as u16, EXAMPLE.serial)
+    mode.fields(Version::One, EXAMPLE.taps as u16, EXAMPLE.serial)
 }
 
-/// A block that is received as it was sent.
-fn reception(mode: Mode) -> Reception {
+/// A block that is received as it was sent, with a card of a version.
+fn reception_of(version: Version, mode: Mode) -> Reception {
     let block = Random::new(SEED).bytes(mode.bytes());
-    Reception::new(mode, pack(&fields(mode)), block)
+    let card = mode.card_of(version, EXAMPLE.taps as u16, EXAMPLE.serial);
+    Reception::new(mode, card, block)
 }
 
-fn both_ways(mode: Mode) -> [Good; 2] {
-    let reception = reception(mode);
+/// The same with a card of version 1.
+fn reception(mode: Mode) -> Reception {
+    reception_of(Version::One, mode)
+}
+
+fn both_ways(version: Version, mode: Mode) -> [Good; 2] {
+    let reception = reception_of(version, mode);
     let card = reception.card;
     let (send, read) = mode.entries();
     let out = Good {
-        name: name(mode, "out"),
+        name: name_of(version, mode, "out"),
         mode,
         entry: send,
-        card,
+        card: card.clone(),
         input: reception.block,
         room: mode.items(),
     };
     let back = Good {
-        name: name(mode, "back"),
+        name: name_of(version, mode, "back"),
         mode,
         entry: read,
         card,
@@ -279,6 +461,15 @@ fn both_ways(mode: Mode) -> [Good; 2] {
         room: mode.bytes(),
     };
     [out, back]
+}
+
+/// A mode that a mode's entries don't serve.
+const fn other_mode(mode: Mode) -> Mode {
+    if mode.kind == 0 {
+        PAYLOAD
+    } else {
+        FRAME_CONTROL
+    }
 }
 
 /// The words for what a mode sends, and for its bytes.
@@ -298,6 +489,20 @@ fn name(mode: Mode, way: &str) -> String {
     }
     let (kind, rate, modulation) = (mode.kind, mode.rate_name(), mode.modulation_name());
     format!("{what} {way}, band {band}, kind {kind}, rate {rate}, {modulation}")
+}
+
+/// A way on a mode with a card of a version, by name. With version 2 a payload's band and
+/// modulation are left out: a label has no room for them.
+fn name_of(version: Version, mode: Mode, way: &str) -> String {
+    let way_of_second = format!("{way}, version 2");
+    match version {
+        Version::One => name(mode, way),
+        Version::Two if mode.kind == 0 => name(mode, &way_of_second),
+        Version::Two => {
+            let (what, kind, rate) = (words(mode).0, mode.kind, mode.rate_name());
+            format!("{what} {way_of_second}, kind {kind}, rate {rate}")
+        }
+    }
 }
 
 impl Good {
@@ -324,84 +529,236 @@ impl Cases {
         self.0.push(Record::new(label, call, card, input, room));
     }
 
+    /// A card read with room for so many fields.
+    fn card_read(&mut self, label: &str, card: &[u8], room: usize) {
+        self.add(label, Call::CardRead, card, &[], room);
+    }
+
     fn cards_read(&mut self) {
-        let mut read = |label: &str, card: &[u8], room| {
-            self.add(label, Call::CardRead, card, &[], room);
-        };
-        for room in [CARD_FIELDS - 1, CARD_FIELDS, CARD_FIELDS + 1] {
+        for room in [7, 8, 9] {
             let label = format!("example card, room of {room} fields");
-            read(&label, &pack(&EXAMPLE), room);
+            self.card_read(&label, &pack(&EXAMPLE, Version::One), room);
         }
         for length in [0, 10, 12, 40] {
-            let (label, card) = card_of(length, pack(&EXAMPLE));
-            read(&label, &card, CARD_FIELDS);
+            let (label, card) = card_of(length, pack(&EXAMPLE, Version::One));
+            self.card_read(&label, &card, CARD_FIELDS);
         }
-        for changes in REFUSED.iter().chain(&NOT_TOGETHER).chain(&TAKEN) {
-            let (label, fields) = changed(GOOD, changes);
-            read(&label, &pack(&fields), CARD_FIELDS);
+        for changes in fitting() {
+            let (label, card) = eleven_bytes(GOOD, changes);
+            self.card_read(&label, &card, CARD_FIELDS);
         }
+    }
+
+    /// Both sides of the ten fields, and cards of version 2.
+    fn second_cards_read(&mut self) {
+        for ((label, card), rooms) in examples().iter().zip([&[10, 11][..], &[9, 10, 11]]) {
+            for &room in rooms {
+                self.card_read(&format!("{label}, room of {room} fields"), card, room);
+            }
+        }
+        for (label, card) in second_refused().into_iter().chain(second_taken()) {
+            self.card_read(&label, &card, CARD_FIELDS);
+        }
+    }
+
+    /// A card printed with so much room and its name.
+    fn card_printed(&mut self, (label, card): &Named, room: usize, room_name: &str) {
+        let label = format!("{label} printed{room_name}");
+        self.add(&label, Call::CardText, card, &[], room);
     }
 
     fn cards_printed(&mut self) {
-        let mut print = |label: &str, card: &[u8], room| {
-            self.add(label, Call::CardText, card, &[], room);
-        };
+        let [example, _] = examples();
         for room in [84, 85, 86] {
-            let label = format!("example card printed, room of {room} bytes");
-            print(&label, &pack(&EXAMPLE), room);
+            self.card_printed(&example, room, &room_of(room));
         }
         for length in [10, 12] {
-            let (label, card) = card_of(length, pack(&EXAMPLE));
-            print(&format!("{label} printed"), &card, TEXT_ROOM);
+            let card = card_of(length, pack(&EXAMPLE, Version::One));
+            self.card_printed(&card, TEXT_ROOM, "");
         }
-        for changes in REFUSED.iter().chain(&NOT_TOGETHER).chain(&TAKEN) {
-            let (label, fields) = changed(GOOD, changes);
-            print(&format!("{label} printed"), &pack(&fields), TEXT_ROOM);
+        for changes in fitting() {
+            self.card_printed(&eleven_bytes(GOOD, changes), TEXT_ROOM, "");
         }
+    }
+
+    /// Both sides of the length of a text with the lines of version 2, and of a refusal by 10; then
+    /// cards of version 2.
+    fn second_cards_printed(&mut self) {
+        let [_, example] = examples();
+        let refused = eleven_bytes(GOOD, &[(VERSION, 2)]);
+        for card in [example, refused] {
+            let needed = card::text(&card.1).len();
+            for room in [needed - 1, needed, needed + 1] {
+                self.card_printed(&card, room, &room_of(room));
+            }
+        }
+        for card in second_refused().iter().chain(&second_taken()) {
+            self.card_printed(card, TEXT_ROOM, "");
+        }
+    }
+
+    /// Fields written with so much room and its name.
+    fn written(&mut self, (label, fields): (String, Fields), room: usize, room_name: &str) {
+        let label = format!("{label} written{room_name}");
+        self.add(&label, Call::CardWrite, &write_card(&fields), &[], room);
     }
 
     fn cards_written(&mut self) {
-        let mut write = |label: &str, fields: Fields, room| {
-            let card = fields.to_array().map(u64::to_be_bytes).concat();
-            self.add(label, Call::CardWrite, &card, &[], room);
-        };
-        for room in [CARD_BYTES - 1, CARD_BYTES, CARD_BYTES + 1] {
-            let label = format!("example card written, room of {room} bytes");
-            write(&label, EXAMPLE, room);
+        let needed = Version::One.bytes();
+        for room in [needed - 1, needed, needed + 1] {
+            let example = ("example card".to_string(), EXAMPLE);
+            self.written(example, room, &room_of(room));
         }
-        let fitting = REFUSED.iter().chain(&NOT_TOGETHER).chain(&TAKEN);
-        for changes in TOO_LARGE.iter().chain(fitting) {
-            let (label, fields) = changed(GOOD, changes);
-            write(&format!("{label} written"), fields, CARD_BYTES);
+        for changes in TOO_LARGE.into_iter().chain(fitting()) {
+            // Nothing is wrong with version 2 but the room.
+            let room_name = if changes == [(VERSION, 2)] {
+                room_of(needed)
+            } else {
+                String::new()
+            };
+            self.written(changed(GOOD, changes), needed, &room_name);
         }
         for changes in [&[(BAND, 4)][..], &[(SPARE, 2), (BAND, 4)]] {
-            let (label, fields) = changed(GOOD, changes);
-            write(&format!("{label} written, no room"), fields, 0);
+            self.written(changed(GOOD, changes), 0, NO_ROOM);
         }
     }
 
-    /// Cards that an entry refuses, all else being right.
+    /// Fields of version 2, then counts of both versions that are not one and one.
+    fn second_cards_written(&mut self) {
+        let needed = Version::Two.bytes();
+        let second: &[Change] = &[(VERSION, 2)];
+        for room in [needed, needed + 1] {
+            self.written(changed(GOOD, second), room, &room_of(room));
+        }
+        for room in [needed - 1, needed, needed + 1] {
+            let example = ("example card of version 2".to_string(), SECOND_EXAMPLE);
+            self.written(example, room, &room_of(room));
+        }
+        for version in [3, 16, 18, (1 << 32) + 1, u64::MAX] {
+            self.written(changed(GOOD, &[(VERSION, version)]), needed, "");
+        }
+        let other_fields = TOO_LARGE.into_iter().chain(fitting());
+        for changes in other_fields.filter(|changes| changes[0].0 != VERSION) {
+            let changes = [second, changes].concat();
+            self.written(changed(GOOD, &changes), needed, "");
+        }
+        for version in [&[], second] {
+            for kind in [&[][..], &[(KIND, 0)]] {
+                for counts in OTHER_COUNTS {
+                    let changes = [version, kind, counts].concat();
+                    self.written(changed(GOOD, &changes), needed, "");
+                }
+            }
+            let kind_0 = [version, &[(KIND, 0)]].concat();
+            self.written(changed(GOOD, &kind_0), needed, "");
+            for wrong in [
+                &[(BLOCKS, 2)][..],
+                &[(COPIES, 3)],
+                &[(SPARE, 1), (COPIES, 2)],
+            ] {
+                let changes = [version, wrong].concat();
+                self.written(changed(GOOD, &changes), 0, NO_ROOM);
+            }
+        }
+    }
+
+    /// A card moved to a version, with so much room and its name.
+    fn moved(&mut self, (label, card): &Named, version: u64, room: usize, room_name: &str) {
+        let label = format!("{label} moved to version {version}{room_name}");
+        let asked = version.to_be_bytes();
+        self.add(&label, Call::CardMove, card, &asked, room);
+    }
+
+    /// Good cards moved to their own version and to the other: both sides of the room, then all
+    /// good cards.
+    fn cards_moved(&mut self) {
+        for example in examples() {
+            for version in Version::ALL {
+                let needed = version.bytes();
+                for room in [needed - 1, needed, needed + 1] {
+                    self.moved(&example, version.number(), room, &room_of(room));
+                }
+            }
+        }
+        let taken = [&[(KIND, 0)][..]].into_iter().chain(TAKEN);
+        let mut cards: Vec<Named> = taken.map(|changes| eleven_bytes(GOOD, changes)).collect();
+        cards.extend(second_taken());
+        for card in &cards {
+            for version in Version::ALL {
+                self.moved(card, version.number(), version.bytes(), "");
+            }
+        }
+    }
+
+    /// Cards and versions asked for that are refused, one cause at a time and two at once.
+    fn cards_not_moved(&mut self) {
+        let needed = Version::Two.bytes();
+        for example in examples() {
+            for version in NO_VERSIONS {
+                self.moved(&example, version, needed, "");
+            }
+            self.moved(&example, 3, 0, NO_ROOM);
+        }
+        let lengths = [0, 10, 12, 40].into_iter();
+        let mut cards: Vec<Named> = lengths
+            .map(|length| card_of(length, pack(&EXAMPLE, Version::One)))
+            .collect();
+        let eleven = REFUSED.iter().chain(&NOT_TOGETHER);
+        cards.extend(eleven.map(|changes| eleven_bytes(GOOD, changes)));
+        cards.extend(second_refused());
+        for card in &cards {
+            for version in [1, 2, 3] {
+                self.moved(card, version, needed, "");
+            }
+            self.moved(card, 1, 0, NO_ROOM);
+        }
+    }
+
+    /// A card at an entry, all else being right.
+    fn card_at(&mut self, good: &Good, (label, card): &Named) {
+        let label = format!("{label} at {}", good.entry_name());
+        let call = Call::Entry(good.entry);
+        self.add(&label, call, card, &good.input, good.room);
+    }
+
+    /// Cards that an entry refuses.
     fn cards_at(&mut self, good: &Good) {
-        let mut at = |label: &str, card: &[u8]| {
-            let label = format!("{label} at {}", good.entry_name());
-            let call = Call::Entry(good.entry);
-            self.add(&label, call, card, &good.input, good.room);
-        };
         for length in [0, 10, 12] {
-            let (label, card) = card_of(length, good.card);
-            at(&label, &card);
+            self.card_at(good, &card_of(length, good.card.clone()));
         }
-        let (this, other) = match good.mode.kind {
-            0 => (FRAME_CONTROL, PAYLOAD),
-            _ => (PAYLOAD, FRAME_CONTROL),
-        };
-        let served = |changes: &&&[Change]| (changes[0] == (KIND, 0)) == (this.kind == 0);
+        let served = |changes: &&&[Change]| (changes[0] == (KIND, 0)) == (good.mode.kind == 0);
         for changes in REFUSED.iter().chain(NOT_TOGETHER.iter().filter(served)) {
-            let (label, fields) = changed(fields(this), changes);
-            at(&label, &pack(&fields));
+            self.card_at(good, &eleven_bytes(fields(good.mode), changes));
         }
+        let other = other_mode(good.mode);
         let label = format!("{} card", words(other).0);
-        at(&label, &pack(&fields(other)));
+        self.card_at(good, &(label, pack(&fields(other), Version::One)));
+    }
+
+    /// The same because there are two versions, or of cards of version 2.
+    fn second_cards_at(&mut self, good: &Good) {
+        let this = fields(good.mode);
+        self.card_at(good, &card_of(13, good.card.clone()));
+        self.card_at(good, &second_card_of(13, this));
+        let [spare, ..] = REFUSED_ON_11_BYTES;
+        self.card_at(good, &on_bytes(Version::One, this, spare));
+        for changes in [
+            &[(VERSION, 1), (SPARE, 1)][..],
+            &[(VERSION, 0)],
+            &[(SPARE, 1)],
+            &[(KIND, 5)],
+            &[(MODULATION, 3)],
+        ] {
+            self.card_at(good, &on_bytes(Version::Two, this, changes));
+        }
+        for byte in [0x08, 0x28, 0x30, 0x38, 0x40, 0xC0, 0x01, 0x04] {
+            self.card_at(good, &twelve_bytes_with(2, this, byte));
+        }
+        self.card_at(good, &twelve_bytes_with(1, this, 0xFF));
+        let other = other_mode(good.mode);
+        let label = format!("{} card of version 2", words(other).0);
+        let (_, card) = on_bytes(Version::Two, fields(other), &[]);
+        self.card_at(good, &(label, card));
     }
 
     /// Both sides of the input's length, then both sides of the room.
@@ -428,10 +785,10 @@ impl Cases {
         let label = "card of 12 bytes with version 15";
         self.add(label, Call::CardRead, &[0xFF; 12], &[], CARD_FIELDS);
 
-        let [out, back] = both_ways(FRAME_CONTROL);
+        let [out, back] = both_ways(Version::One, FRAME_CONTROL);
         let (label, fields) = changed(fields(FRAME_CONTROL), &[(KIND, 5)]);
         let label = format!("{label} at frame control out, word of 15 bytes");
-        let (call, card) = (Call::Entry(out.entry), pack(&fields));
+        let (call, card) = (Call::Entry(out.entry), pack(&fields, Version::One));
         self.add(&label, call, &card, &out.input[..15], out.room);
 
         for good in [out, back] {
@@ -440,6 +797,15 @@ impl Cases {
             let input = &good.input[..good.input.len() - 1];
             let call = Call::Entry(good.entry);
             self.add(&label, call, &good.card, input, good.room - 1);
+        }
+
+        let label = "card of 13 bytes with version 15";
+        self.add(label, Call::CardRead, &[0xFF; 13], &[], CARD_FIELDS);
+        for good in both_ways(Version::Two, FRAME_CONTROL) {
+            let [less, ..] = good.input_names();
+            let label = format!("version 2 on 11 bytes at {}, {less}", good.entry_name());
+            let (card, input) = (&good.card[..11], &good.input[..good.input.len() - 1]);
+            self.add(&label, Call::Entry(good.entry), card, input, good.room);
         }
     }
 
@@ -553,21 +919,69 @@ mod tests {
         }
     }
 
-    /// By hand from 01 and 02 (T-01).
+    /// By hand from 01 and 02 (T-01, T-03).
     const ANSWERS: &str = "\
-example card, room of 7 fields: 5 8
-example card, room of 9 fields: 0 8
+example card, room of 7 fields: 5 10
+example card, room of 8 fields: 5 10
+example card, room of 9 fields: 5 10
 card of 10 bytes: 1 10
+version 1 on 12 bytes: 10 0
+version 2 on 11 bytes: 10 0
 card of 40 bytes: 1 40
 version 0: 2 0
 spare 1: 2 0
 version 2 with kind 5 and spare 1: 2 0
 kind 5: 3 0
 kind 0 with modulation 0: 3 0
-band 1: 0 8
-band 2: 0 8
-band 3: 0 8
-serial 18446744073709551615: 0 8
+band 1: 0 10
+band 2: 0 10
+band 3: 0 10
+serial 18446744073709551615: 0 10
+example card, room of 10 fields: 0 10
+example card, room of 11 fields: 0 10
+example card of version 2, room of 9 fields: 5 10
+example card of version 2, room of 10 fields: 0 10
+example card of version 2, room of 11 fields: 0 10
+card of 13 bytes: 1 13
+version 2 on 10 bytes: 1 10
+version 2 on 13 bytes: 1 13
+version 2 with spare 1 on 11 bytes: 2 0
+version 2 with kind 5 on 11 bytes: 10 0
+version 3 on 11 bytes: 2 0
+version 1 with spare 1 on 12 bytes: 2 0
+version 1 with kind 5 on 12 bytes: 10 0
+version 0 on 12 bytes: 2 0
+version 3 on 12 bytes: 2 0
+spare 1 on 12 bytes: 2 0
+spare 1 with kind 5 on 12 bytes: 2 0
+kind 5 on 12 bytes: 3 0
+kind 7 on 12 bytes: 3 0
+modulation 3 on 12 bytes: 3 0
+kind 3 with rate 1 on 12 bytes: 3 0
+kind 0 with modulation 2 on 12 bytes: 3 0
+version 2 on 12 bytes, byte 3 of 08: 3 0
+version 2 on 12 bytes, byte 3 of 10: 3 0
+version 2 on 12 bytes, byte 3 of 18: 3 0
+version 2 on 12 bytes, byte 3 of 20: 3 0
+version 2 on 12 bytes, byte 3 of 28: 3 0
+version 2 on 12 bytes, byte 3 of 30: 3 0
+version 2 on 12 bytes, byte 3 of 38: 3 0
+version 2 on 12 bytes, byte 3 of 40: 3 0
+version 2 on 12 bytes, byte 3 of 80: 3 0
+version 2 on 12 bytes, byte 3 of C0: 3 0
+version 2 on 12 bytes, byte 3 of 01: 2 0
+version 2 on 12 bytes, byte 3 of 02: 2 0
+version 2 on 12 bytes, byte 3 of 04: 2 0
+version 2 on 12 bytes, byte 3 of 39: 2 0
+version 1 on 12 bytes, byte 3 of 01: 10 0
+version 1 on 12 bytes, byte 3 of 38: 10 0
+version 1 on 12 bytes, byte 3 of FF: 10 0
+kind 0 on 12 bytes, byte 3 of 08: 3 0
+kind 0 on 12 bytes, byte 3 of 40: 3 0
+version 2 on 12 bytes: 0 10
+kind 0 on 12 bytes: 0 10
+band 3 on 12 bytes: 0 10
+serial 18446744073709551615 on 12 bytes: 0 10
 example card printed, room of 84 bytes: 5 85
 example card printed, room of 85 bytes: 0 85
 example card printed, room of 86 bytes: 0 85
@@ -575,6 +989,17 @@ card of 10 bytes printed: 0 10
 band 2 printed: 0 85
 band 3 printed: 0 85
 serial 0 printed: 0 70
+version 1 on 12 bytes printed: 0 11
+version 2 on 11 bytes printed: 0 11
+example card of version 2 printed, room of 102 bytes: 5 103
+example card of version 2 printed, room of 103 bytes: 0 103
+example card of version 2 printed, room of 104 bytes: 0 103
+version 2 on 11 bytes printed, room of 10 bytes: 5 11
+version 2 on 11 bytes printed, room of 11 bytes: 0 11
+version 2 on 12 bytes, byte 3 of 01 printed: 0 10
+version 2 on 12 bytes, byte 3 of 38 printed: 0 10
+version 1 on 12 bytes, byte 3 of FF printed: 0 11
+serial 0 on 12 bytes printed: 0 88
 example card written, room of 10 bytes: 5 11
 example card written, room of 12 bytes: 0 11
 version 17 written: 2 0
@@ -585,7 +1010,107 @@ band 2 written: 0 11
 band 3 written: 0 11
 spare 2 with band 4 written, no room: 2 0
 band 4 written, no room: 3 0
-card of 12 bytes at payload out: 1 12
+version 2 written, room of 11 bytes: 5 12
+version 2 written, room of 12 bytes: 0 12
+version 2 written, room of 13 bytes: 0 12
+example card of version 2 written, room of 11 bytes: 5 12
+example card of version 2 written, room of 12 bytes: 0 12
+version 3 written: 2 0
+version 18 written: 2 0
+version 4294967297 written: 2 0
+version 2 with spare 2 written: 2 0
+version 2 with taps 2048 written: 3 0
+version 2 with kind 5 written: 3 0
+version 2 with kind 0 and modulation 0 written: 3 0
+version 2 with band 3 written: 0 12
+version 2 with serial 18446744073709551615 written: 0 12
+blocks 0 written: 3 0
+blocks 2 written: 3 0
+blocks 5 written: 3 0
+copies 2 written: 3 0
+copies 3 written: 3 0
+copies 11 written: 3 0
+copies 12 written: 3 0
+blocks 4 with copies 11 written: 3 0
+version 2 with blocks 2 written: 3 0
+version 2 with blocks 5 written: 3 0
+version 2 with blocks 4294967297 written: 3 0
+version 2 with copies 0 written: 3 0
+version 2 with copies 2 written: 3 0
+version 2 with copies 3 written: 3 0
+version 2 with copies 11 written: 3 0
+version 2 with blocks 4 and copies 11 written: 3 0
+kind 0 with blocks 2 written: 3 0
+kind 0 with copies 2 written: 3 0
+version 2 with kind 0 and blocks 2 written: 3 0
+version 2 with kind 0 and copies 2 written: 3 0
+version 2 with kind 0 and copies 18446744073709551615 written: 3 0
+kind 0 written: 0 11
+version 2 with kind 0 written: 0 12
+blocks 2 written, no room: 3 0
+version 2 with copies 3 written, no room: 3 0
+spare 1 with copies 2 written, no room: 2 0
+example card moved to version 1, room of 10 bytes: 5 11
+example card moved to version 1, room of 11 bytes: 0 11
+example card moved to version 1, room of 12 bytes: 0 11
+example card moved to version 2, room of 11 bytes: 5 12
+example card moved to version 2, room of 12 bytes: 0 12
+example card moved to version 2, room of 13 bytes: 0 12
+example card of version 2 moved to version 1, room of 10 bytes: 5 11
+example card of version 2 moved to version 1, room of 11 bytes: 0 11
+example card of version 2 moved to version 1, room of 12 bytes: 0 11
+example card of version 2 moved to version 2, room of 11 bytes: 5 12
+example card of version 2 moved to version 2, room of 12 bytes: 0 12
+example card of version 2 moved to version 2, room of 13 bytes: 0 12
+kind 0 moved to version 2: 0 12
+kind 0 on 12 bytes moved to version 1: 0 11
+band 3 moved to version 1: 0 11
+serial 18446744073709551615 on 12 bytes moved to version 2: 0 12
+example card moved to version 0: 2 0
+example card moved to version 3: 2 0
+example card moved to version 4294967297: 2 0
+example card of version 2 moved to version 18: 2 0
+example card of version 2 moved to version 18446744073709551615: 2 0
+example card of version 2 moved to version 3, no room: 2 0
+card of 0 bytes moved to version 1: 1 0
+card of 10 bytes moved to version 2: 1 10
+card of 13 bytes moved to version 1: 1 13
+card of 13 bytes moved to version 3: 1 13
+version 2 on 13 bytes moved to version 3: 1 13
+version 0 moved to version 1: 2 0
+version 1 on 12 bytes moved to version 1: 10 0
+version 1 on 12 bytes moved to version 2: 10 0
+version 1 on 12 bytes moved to version 3: 2 0
+version 1 on 12 bytes moved to version 1, no room: 10 0
+version 2 on 11 bytes moved to version 1: 10 0
+version 2 on 11 bytes moved to version 2: 10 0
+version 2 on 11 bytes moved to version 3: 2 0
+version 2 with spare 1 on 11 bytes moved to version 1: 2 0
+version 1 with spare 1 on 12 bytes moved to version 2: 2 0
+version 1 on 12 bytes, byte 3 of FF moved to version 2: 10 0
+kind 5 moved to version 2: 3 0
+kind 5 moved to version 3: 2 0
+kind 5 moved to version 1, no room: 3 0
+kind 5 on 12 bytes moved to version 1: 3 0
+version 2 on 12 bytes, byte 3 of 01 moved to version 1: 2 0
+version 2 on 12 bytes, byte 3 of 08 moved to version 1: 3 0
+version 2 on 12 bytes, byte 3 of 08 moved to version 2: 3 0
+version 2 on 12 bytes, byte 3 of 08 moved to version 3: 2 0
+version 2 on 12 bytes, byte 3 of 40 moved to version 1, no room: 3 0
+version 1 on 12 bytes at payload out: 10 0
+version 2 on 11 bytes at frame control back: 10 0
+card of 13 bytes at frame control out: 1 13
+version 2 on 13 bytes at payload back: 1 13
+version 2 with spare 1 on 11 bytes at payload out: 2 0
+version 1 with spare 1 on 12 bytes at frame control out: 2 0
+spare 1 on 12 bytes at frame control back: 2 0
+kind 5 on 12 bytes at payload back: 3 0
+version 2 on 12 bytes, byte 3 of 30 at frame control out: 3 0
+version 2 on 12 bytes, byte 3 of 40 at payload out: 3 0
+version 2 on 12 bytes, byte 3 of 04 at payload back: 2 0
+version 1 on 12 bytes, byte 3 of FF at frame control back: 10 0
+payload card of version 2 at frame control back: 3 0
+frame control card of version 2 at payload out: 3 0
 kind 5 at payload back: 3 0
 payload card at frame control out: 3 0
 frame control card at payload back: 3 0
@@ -610,7 +1135,21 @@ payload back, band 2, kind 2, rate 1/2, QPSK, one item more: 4 2315
 payload out, band 3, kind 1, rate 1/2, BPSK, room one short: 5 1176
 payload back, band 3, kind 4, rate 1/2, 16QAM, one item less: 4 8427
 payload back, band 3, kind 3, rate 1/2, BPSK, all items, exact room: 0 264
-card of 12 bytes with version 15: 1 12
+frame control out, version 2, band 0, word of 15 bytes: 4 15
+frame control out, version 2, band 0, word of 16 bytes, exact room: 0 3288
+frame control out, version 2, band 3, room one short: 5 1176
+frame control back, version 2, band 1, one item more: 4 3145
+frame control back, version 2, band 2, all items, exact room: 0 16
+payload out, version 2, kind 1, rate 1/2, block of 72 bytes, exact room: 0 1644
+payload out, version 2, kind 3, rate 1/2, room one short: 5 4272
+payload out, version 2, kind 4, rate 16/18, block of 520 bytes, exact room: 0 4932
+payload back, version 2, kind 2, rate 1/2, all items, exact room: 0 136
+payload back, version 2, kind 4, rate 1/2, one item less: 4 8329
+payload back, version 2, kind 4, rate 16/18, room one short: 5 520
+card of 12 bytes with version 15: 2 0
+card of 13 bytes with version 15: 1 13
+version 2 on 11 bytes at frame control out, word of 15 bytes: 10 0
+version 2 on 11 bytes at frame control back, one item less: 10 0
 kind 5 at frame control out, word of 15 bytes: 3 0
 frame control out, band 0, word of 15 bytes, room one short: 4 15
 frame control back, band 0, one item less, room one short: 4 3287
@@ -646,6 +1185,55 @@ payload back, band 0, kind 4, rate 16/18, QPSK, bit 252, its only copy lost: 7 2
             .iter()
             .filter(|line| line.contains("12 of 12 copies wrong: 8 "));
         assert_eq!(wrong.count(), 2);
+    }
+
+    /// By hand from 02 (T-03): the bytes of cards and what becomes of them.
+    const MOVED: &str = "\
+example card moved to version 1, room of 11 bytes: 12588e0020000000000001 12588e0020000000000001
+example card moved to version 2, room of 12 bytes: 12588e0020000000000001 22588e000020000000000001
+example card of version 2 moved to version 1, room of 11 bytes: \
+22588e000020000000000001 12588e0020000000000001
+example card of version 2 moved to version 2, room of 12 bytes: \
+22588e000020000000000001 22588e000020000000000001
+band 3 moved to version 2: 1e188e0020000000000001 2e188e000020000000000001
+serial 18446744073709551615 moved to version 2: 12188effffffffffffffff 22188e00ffffffffffffffff
+kind 0 on 12 bytes moved to version 1: 20188e000020000000000001 10188e0020000000000001
+taps 2047 on 12 bytes moved to version 1: 221ffe000020000000000001 121ffe0020000000000001
+version 1 on 12 bytes moved to version 2: 12588e002000000000000100 nothing
+version 2 on 12 bytes, byte 3 of 28 moved to version 1: 22188e280020000000000001 nothing
+";
+
+    #[test]
+    fn cards_are_moved_as_02_says() {
+        let hex = |bytes: &[u8]| match bytes {
+            [] => "nothing".to_string(),
+            _ => bytes.iter().map(|byte| format!("{byte:02x}")).collect(),
+        };
+        let records = records();
+        let moves = records
+            .iter()
+            .filter(|record| record.call == Call::CardMove);
+        let lines: HashSet<String> = moves
+            .map(|record| {
+                let (card, output) = (hex(&record.card), hex(&record.output));
+                format!("{}: {card} {output}", record.label)
+            })
+            .collect();
+        for answer in MOVED.lines() {
+            assert!(lines.contains(answer), "{answer}");
+        }
+    }
+
+    #[test]
+    fn the_example_of_version_2_is_printed_as_02_says() {
+        let records = records();
+        let label = "example card of version 2 printed, room of 103 bytes";
+        let record = records.iter().find(|record| record.label == label);
+        let text = "version 2\nband 0\nkind 4\nrate 1\nmodulation 1\ntaps 10001000111\n\
+                    blocks 1\ncopies 1\nserial 9007199254740993\n";
+        let card = [0x22, 0x58, 0x8E, 0, 0, 0x20, 0, 0, 0, 0, 0, 1];
+        let printed = record.map(|record| (&record.card[..], &record.output[..]));
+        assert_eq!(printed, Some((&card[..], text.as_bytes())));
     }
 
     /// By hand from 02 (T-02): the bits of I and Q, and the items.

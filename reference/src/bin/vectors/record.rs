@@ -2,11 +2,12 @@
 
 use std::fmt::{self, Display, Formatter};
 
+use reference::card::Fields;
 use reference::interface::{self, Entry, CARD_FIELDS};
-use reference::Report;
+use reference::{big_endian, Report};
 
 pub const MAX_LABEL: usize = 80;
-pub const MAX_CARD: usize = 64;
+pub const MAX_CARD: usize = 8 * CARD_FIELDS;
 pub const MAX_INPUT: usize = 10_000;
 pub const MAX_OUTPUT: usize = 10_000;
 
@@ -19,10 +20,11 @@ pub enum Call {
     Map,
     Slice,
     CardWrite,
+    CardMove,
 }
 
 impl Call {
-    pub const ALL: [Call; 9] = [
+    pub const ALL: [Call; 10] = [
         Call::Entry(Entry::FcSend),
         Call::Entry(Entry::FcRead),
         Call::Entry(Entry::PayloadSend),
@@ -32,6 +34,7 @@ impl Call {
         Call::Map,
         Call::Slice,
         Call::CardWrite,
+        Call::CardMove,
     ];
 
     pub fn number(self) -> u8 {
@@ -47,6 +50,7 @@ impl Call {
             Call::Map => "map",
             Call::Slice => "slice",
             Call::CardWrite => "card_write",
+            Call::CardMove => "card_move",
         }
     }
 }
@@ -64,14 +68,14 @@ pub struct Record {
     pub output: Vec<u8>,
 }
 
-/// The number of 8 bytes that starts at a byte of a card.
-fn number_at(card: &[u8], at: usize) -> u64 {
-    number_of(&card[at..at + 8])
+/// The number of 8 bytes that starts at a byte of a card or an input.
+fn number_at(bytes: &[u8], at: usize) -> u64 {
+    big_endian(&bytes[at..at + 8])
 }
 
-fn number_of(bytes: &[u8]) -> u64 {
-    let bytes = bytes.iter();
-    bytes.fold(0, |number, &byte| number << 8 | u64::from(byte))
+/// The card of a record that writes one: its fields.
+pub fn write_card(fields: &Fields) -> Vec<u8> {
+    fields.to_array().map(u64::to_be_bytes).concat()
 }
 
 /// A slice's card: the modulation, `heard`, and the bits of I and Q.
@@ -103,6 +107,7 @@ fn answer(call: Call, card: &[u8], input: &[u8], room: usize) -> (Report, Vec<u8
             let fields: [u64; CARD_FIELDS] = std::array::from_fn(|n| number_at(card, 8 * n));
             interface::card_write(&fields, &mut bytes)
         }
+        Call::CardMove => interface::card_move(card, number_at(input, 0), &mut bytes),
     };
     let written = if report.number == 0 {
         report.value as usize
@@ -187,7 +192,7 @@ fn take<'a>(bytes: &mut &'a [u8], length: usize) -> Option<&'a [u8]> {
 }
 
 fn take_number(bytes: &mut &[u8], length: usize) -> Option<u64> {
-    take(bytes, length).map(number_of)
+    take(bytes, length).map(big_endian)
 }
 
 fn take_with_length(bytes: &mut &[u8]) -> Option<Vec<u8>> {
@@ -252,8 +257,8 @@ impl Display for Record {
 #[cfg(test)]
 mod tests {
     use super::*;
-    use reference::card::pack;
-    use reference::cases::EXAMPLE;
+    use reference::card::{pack, Version};
+    use reference::cases::{EXAMPLE, SECOND_EXAMPLE};
     use reference::interface::COORDINATES;
 
     #[test]
@@ -268,9 +273,18 @@ mod tests {
 
         let record = Record::new("ten", Call::CardRead, &[1; 10], &[], CARD_FIELDS);
         let mut bytes = vec![
-            3, b't', b'e', b'n', 4, 0, 10, 1, 1, 1, 1, 1, 1, 1, 1, 1, 1, 0, 0, 0, 8, 1,
+            3, b't', b'e', b'n', 4, 0, 10, 1, 1, 1, 1, 1, 1, 1, 1, 1, 1, 0, 0, 0, 10, 1,
         ];
         bytes.extend([0, 0, 0, 0, 0, 0, 0, 10, 0, 0]);
+        assert_eq!(to_bytes(&[record]), bytes);
+
+        let (first, asked) = (pack(&EXAMPLE, Version::One), 2u64.to_be_bytes());
+        let record = Record::new("to 2", Call::CardMove, &first, &asked, 14);
+        let mut bytes = vec![4, b't', b'o', b' ', b'2', 9, 0, 11];
+        bytes.extend(&first);
+        bytes.extend([0, 8, 0, 0, 0, 0, 0, 0, 0, 2, 0, 14, 0]);
+        bytes.extend([0, 0, 0, 0, 0, 0, 0, 12, 0, 12]);
+        bytes.extend(pack(&SECOND_EXAMPLE, Version::Two));
         assert_eq!(to_bytes(&[record]), bytes);
     }
 
@@ -286,9 +300,12 @@ mod tests {
 
     #[test]
     fn writing_takes_its_fields_from_the_card() {
-        let card = EXAMPLE.to_array().map(u64::to_be_bytes).concat();
-        let record = Record::new("", Call::CardWrite, &card, &[], 11);
-        assert_eq!(record.output, pack(&EXAMPLE));
+        for (example, version) in [(EXAMPLE, Version::One), (SECOND_EXAMPLE, Version::Two)] {
+            let card = write_card(&example);
+            assert_eq!(card.len(), 80);
+            let record = Record::new("", Call::CardWrite, &card, &[], 12);
+            assert_eq!(record.output, pack(&example, version));
+        }
     }
 
     #[test]
@@ -304,7 +321,9 @@ mod tests {
         assert_eq!(lines[2], "fc_send 0 records, 0 mismatches");
         assert_eq!(lines[6], "card_read 1 records, 0 mismatches");
         assert_eq!(lines[8], "map 2 records, 0 mismatches");
-        assert_eq!(lines[11..], ["3 records, 0 mismatches"]);
+        assert_eq!(lines[10], "card_write 0 records, 0 mismatches");
+        assert_eq!(lines[11], "card_move 0 records, 0 mismatches");
+        assert_eq!(lines[12..], ["3 records, 0 mismatches"]);
     }
 
     #[test]
