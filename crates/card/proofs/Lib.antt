@@ -3,4 +3,5 @@ pub mod ModeLaws
 pub mod CopyLaws
 pub mod GateLaws
 mod CardLaws
+mod ReadLaws
 mod FieldLaws

@@ -1,7 +1,7 @@
 -- What a record expects of its call: a number, a value, and an output that is untouched beyond the expected bytes. Assumes nothing.
 use mathlib.Core.Bool.{Bool, cond, _&&_}
 use mathlib.Core.List.{List}
-use Prim.Native.Nat.{ℕ, zero, suc, _+_, _*_, _/_}
+use Prim.Native.Nat.{ℕ, _+_, _*_, _/_}
 use lib.Dec.{eqb, leb, ltb}
 use lib.Ieee.{Float, nan, eq, toBits, binary64}
 use lib.ListN.{length, getD, replicate}

@@ -1,14 +1,14 @@
 -- Moving a card: with its other fields to the version asked for, there and back as the same bytes, and back to version 1 exactly where it
 -- says one block and one copy. Assumes nothing.
 use mathlib.Core.Path.{_≡_, refl, sym, ap, _∙_}
-use mathlib.Core.Bool.{true, false, not, _&&_}
-use mathlib.Core.List.{List, [], _∷_, _++_}
+use mathlib.Core.Bool.{true, false}
+use mathlib.Core.List.{List, _++_}
 use Prim.Native.Nat.{ℕ, _≤_, _<_, _^_}
 use native.Mathlib.Omega.{arith}
 use lib.Dec.{eqb}
 use lib.ListN.{length, getD, take, drop}
 use lib.Seq.{take-at}
-use borrow.Author.Tests.{eq-eqb, le-ltb, ltb-false, not-false}
+use borrow.Author.Tests.{le-ltb, ltb-false, not-false}
 use Rattle.bits.proofs.BoolLaws.{both}
 use Rattle.refusal.specs.declared.Refusal.the-variants.{Counts}
 use Rattle.refusal.specs.Report.{done, refusal}
@@ -17,11 +17,11 @@ use Rattle.refusal.proofs.OutcomeLaws.{done-same, outcome-done, outcome-good}
 use Rattle.card.specs.declared.Card.{Card}
 use Rattle.card.specs.Modes.{single, defined}
 use Rattle.card.specs.Card.{cardBytes, cardOf, bytesOfCard}
-use Rattle.card.specs.Entries.{isVersion, versioned, readCard}
+use Rattle.card.specs.Entries.{isVersion, readCard}
 use Rattle.card.proofs.ModeLaws.{single-is}
 use Rattle.card.proofs.GateLaws.{card-read, read-sound, card-serial}
 use Rattle.written_card.specs.Entries.{putRows, putInto, inVersion, moveRows, moveCard}
-use Rattle.written_card.specs.Loops.Fields.{Fitting, putCard}
+use Rattle.written_card.specs.Loops.Fields.{putCard}
 use Rattle.written_card.proofs.WriteLaws.{length-card, fits-in}
 use Rattle.written_card.proofs.RowLaws.{said, not-unsaid, sound-says, read-fits, move-read}
 use Rattle.written_card.proofs.RoundTrip.{reads-back, put-back}

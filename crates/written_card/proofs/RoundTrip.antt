@@ -1,6 +1,6 @@
 -- Writing after reading gives the bytes back, and reading after writing gives the fields back, in both versions. Assumes nothing.
 use mathlib.Core.Path.{_≡_, refl, sym, ap, ap₂, _∙_, subst}
-use mathlib.Core.Bool.{Bool, true, false, cond, not, _&&_, _||_}
+use mathlib.Core.Bool.{Bool, true, false, not, _&&_, _||_}
 use mathlib.Core.Logic.{⊎-elim}
 use mathlib.Core.List.{List, [], _∷_, _++_}
 use Prim.{Unit}
@@ -8,22 +8,21 @@ use Prim.Native.Nat.{ℕ, _+_, _-_, _*_, _/_, _%_, _^_, _≤_, _<_}
 use native.Mathlib.Nat.{add-zero, add-assoc, zero-add, add-mul, mul-assoc}
 use native.Mathlib.Omega.{arith}
 use lib.Arith.{digits-lt}
-use lib.Dec.{eqb, ltb, leb}
+use lib.Dec.{eqb, ltb}
 use lib.ListN.{length, getD, take, drop}
 use lib.Pow.{pow-pos, pow-add, high, low}
 use lib.Seq.{take-at}
-use borrow.Author.Tests.{eqb-true, eq-eqb, lt-ltb, le-ltb, ltb-true, leb-true, not-true, not-false}
+use borrow.Author.Tests.{eqb-true, eq-eqb, lt-ltb, le-ltb, ltb-true, not-false}
 use Rattle.bits.specs.Bits.{bitAt, bitOf, pack, field, bytesOf}
 use Rattle.bits.proofs.BitLaws.{pack-ext, pack-shifted, bit-pack, bit-binary, bits-bytes, bytes-bits, same-bits, field-append, field-lt, field-none}
 use Rattle.bits.proofs.BoolLaws.{both, test-cases}
-use Rattle.bits.proofs.RangeLaws.{at-each}
 use Rattle.refusal.specs.Report.{done}
 use Rattle.refusal.specs.Outcome.{Outcome, rowOrder, inOrder}
 use Rattle.refusal.proofs.OutcomeLaws.{NoneApplies, done-same, reported-good, outcome-done, outcome-good}
 use Rattle.card.specs.declared.Card.{Card}
 use Rattle.card.specs.Modes.{single, defined}
 use Rattle.card.specs.Card.{cardBytes, widths, copyCount, copyCode, fieldsFrom, packed, cardFrom, numbersOf, cardOf, paddingOf, bytesOfCard}
-use Rattle.card.specs.Entries.{isVersion, versioned, padded, cardRows, readCard}
+use Rattle.card.specs.Entries.{versioned, padded, cardRows, readCard}
 use Rattle.card.proofs.ModeLaws.{version-is, defined-card, single-is}
 use Rattle.card.proofs.CopyLaws.{code-back, count-back, code-lt}
 use Rattle.card.proofs.GateLaws.{Sound, card-read, read-sound, card-taps}

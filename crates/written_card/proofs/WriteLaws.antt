@@ -1,15 +1,15 @@
 -- Laws of the bytes of a card, and of the fields that fit them. Assumes nothing.
-use mathlib.Core.Path.{_≡_, refl, sym, ap, ap₂, _∙_}
-use mathlib.Core.Bool.{true, _&&_}
+use mathlib.Core.Path.{_≡_, refl, sym, ap, _∙_}
+use mathlib.Core.Bool.{true}
 use mathlib.Core.Logic.{⊎-elim}
-use mathlib.Core.List.{List, [], _∷_, _++_}
+use mathlib.Core.List.{List}
 use Prim.Native.Nat.{ℕ, _+_, _-_, _*_, _/_, _%_, _^_, _≤_, _<_}
 use native.Mathlib.Nat.{add-mul-div-right, add-mul-mod-self-right, add-comm, mul-assoc}
 use native.Mathlib.Omega.{arith}
 use lib.Dec.{eqb}
-use lib.ListN.{length, drop}
+use lib.ListN.{length}
 use lib.Pow.{pow-pos, pow-add, shr-shr, high}
-use borrow.Author.Tests.{eqb-true, eq-eqb}
+use borrow.Author.Tests.{eqb-true}
 use Rattle.bits.specs.Bits.{bitAt, byteOf, bytesOf}
 use Rattle.bits.specs.Lists.{lowest, written}
 use Rattle.bits.proofs.BoolLaws.{both}

@@ -1,5 +1,5 @@
 -- `card::head_of` meets its contract. Assumes nothing.
-use mathlib.Core.Path.{ap, _∙_}
+use mathlib.Core.Path.{ap}
 use Prim.Native.Nat.{_*_}
 use native.Mathlib.Omega.{arith}
 use Rattle.bits.proofs.BitLaws.{field-lt}

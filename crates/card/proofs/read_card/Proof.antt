@@ -1,8 +1,10 @@
 -- `card::read_card` meets its contract: each return is a row of its table. Assumes nothing.
-use mathlib.Core.Path.{_≡_, sym, ap, _∙_}
+use mathlib.Core.Path.{sym, ap, _∙_}
+use denote.Ref.{now}
 use borrow.Author.Tests.{eq-eqb, ne-eqb, not-true, not-false}
 use Rattle.refusal.specs.Report.{done}
 use Rattle.card.specs.Entries.{readCard}
+use Rattle.card.proofs.ReadLaws.{Versioned, read-versioned}
 use borrow.Author.Needs.{needs}
 use Rattle.card.proofs.read_card.Statement.{statement}
 use Rattle.card.proofs.read_card.Tie as tie
@@ -43,57 +45,48 @@ returns-3 c =
     let pad = rw is at (sym (c .before .is-padded .ensures)) in
     simp (long, version ∙ not-false _ (c .before .before .if2 .left), pad ∙ c .if3 .taken)
 
+-- what is known of the bytes behind the padding
+versioned-here : (c : tie.Else3) → Versioned (now (c .before .before .before .before .before .before .before .before .args .card))
+versioned-here c =
+    let versions = c .before .before .before in
+    let read = versions .before in
+    let is = read .unpack .ensures in
+    record {
+      either = sym (read .before .before .is-length .ensures) ∙ not-false _ (read .before .if1 .left);
+      versions = rw is at (sym (versions .is-versioned .ensures)) ∙ not-false _ (c .before .before .if2 .left);
+      clear = rw is at (sym (c .before .is-padded .ensures)) ∙ c .if3 .left;
+    }
+
 card-bytes-requires : tie.Need-card-bytes-requires
 card-bytes-requires c κs = search needs
 
 returns-4 : tie.Need-returns-4
-unfolding readCard
 returns-4 c =
-    let padded = c .before .before .before in
-    let versioned = padded .before .before in
-    let read = versioned .before in
-    let is = read .unpack .ensures in
-    let long = sym (read .before .before .is-length .ensures) ∙ not-false _ (read .before .if1 .left) in
-    let version = rw is at (sym (versioned .is-versioned .ensures)) in
-    let pad = rw is at (sym (padded .is-padded .ensures)) in
-    let bytes = rw is at (c .before .card-bytes .ensures) in
-    let other = rw bytes at (c .if4 .taken) in
-    simp (long, version ∙ not-false _ (padded .before .if2 .left), pad ∙ c .before .before .if3 .left, ne-eqb _ _ other)
+    let here = c .before .before in
+    let is = here .before .before .before .before .unpack .ensures in
+    let other = rw (rw is at (c .before .card-bytes .ensures)) at (c .if4 .taken) in
+    simp (read-versioned _ (versioned-here here), ne-eqb _ _ other)
 
 is-defined-requires : tie.Need-is-defined-requires
 is-defined-requires c κs = search needs
 
 returns-5 : tie.Need-returns-5
-unfolding readCard
 returns-5 c =
-    let counted = c .before .before .before in
-    let padded = counted .before .before in
-    let versioned = padded .before .before in
-    let read = versioned .before in
-    let is = read .unpack .ensures in
-    let long = sym (read .before .before .is-length .ensures) ∙ not-false _ (read .before .if1 .left) in
-    let version = rw is at (sym (versioned .is-versioned .ensures)) in
-    let pad = rw is at (sym (padded .is-padded .ensures)) in
-    let bytes = rw is at (counted .card-bytes .ensures) in
-    let same = rw bytes at (c .before .before .if4 .left) in
+    let long = c .before .before in
+    let here = long .before .before in
+    let is = here .before .before .before .before .unpack .ensures in
+    let same = rw (rw is at (long .before .card-bytes .ensures)) at (long .if4 .left) in
     let mode = rw is at (sym (c .before .is-defined .ensures)) in
-    simp (long, version ∙ not-false _ (padded .before .if2 .left), pad ∙ counted .before .if3 .left, eq-eqb _ _ same, mode ∙ not-true _ (c .if5 .taken))
+    simp (read-versioned _ (versioned-here here), eq-eqb _ _ same, mode ∙ not-true _ (c .if5 .taken))
 
 returns-6 : tie.Need-returns-6
-unfolding readCard
 returns-6 c =
-    let counted = c .before .before .before in
-    let padded = counted .before .before in
-    let versioned = padded .before .before in
-    let read = versioned .before in
-    let is = read .unpack .ensures in
-    let long = sym (read .before .before .is-length .ensures) ∙ not-false _ (read .before .if1 .left) in
-    let version = rw is at (sym (versioned .is-versioned .ensures)) in
-    let pad = rw is at (sym (padded .is-padded .ensures)) in
-    let bytes = rw is at (counted .card-bytes .ensures) in
-    let same = rw bytes at (c .before .before .if4 .left) in
+    let long = c .before .before in
+    let here = long .before .before in
+    let is = here .before .before .before .before .unpack .ensures in
+    let same = rw (rw is at (long .before .card-bytes .ensures)) at (long .if4 .left) in
     let mode = rw is at (sym (c .before .is-defined .ensures)) in
-    simp (long, version ∙ not-false _ (padded .before .if2 .left), pad ∙ counted .before .if3 .left, eq-eqb _ _ same, mode ∙ not-false _ (c .if5 .left)) (ap done is)
+    simp (read-versioned _ (versioned-here here), eq-eqb _ _ same, mode ∙ not-false _ (c .if5 .left)) (ap done is)
 
 pub read-card-spec : {M : Type 1} → statement M
 read-card-spec =

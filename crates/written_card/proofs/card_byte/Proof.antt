@@ -1,5 +1,4 @@
 -- `written_card::card_byte` meets its contract. Assumes nothing.
-use native.Mathlib.Omega.{arith}
 use Rattle.written_card.proofs.WriteLaws.{head-byte, serial-byte}
 use borrow.Author.Needs.{needs}
 use Rattle.written_card.proofs.card_byte.Statement.{statement}
