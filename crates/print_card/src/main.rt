@@ -13,7 +13,7 @@ fn main() {
     }
     let mut input = [0u8; 16];
     let n = io::read_full(STDIN_FILENO, &mut input);
-    let mut text = [0u8; 192];
+    let mut text = [0u8; printed_card::LONGEST];
     let Answer::Done(len) = printed_card::card_text(&input[..n], &mut text) else {
         return;
     };

@@ -1,2 +1,3 @@
--- What the proofs of `printed_card` share. Assumes nothing.
+-- What the proofs of `printed_card` share, and its theorem. Assumes nothing.
 mod DraftLaws
+pub mod LengthLaws

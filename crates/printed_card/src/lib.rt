@@ -1,39 +1,42 @@
-// The printed card (D11): a line for each field of a job card but spare, or `refused` and the number.
+// The printed card (D11): a line for each field of a job card but spare, and the counts only in version 2, or `refused` and the number.
 //
-// Public entry: `card_text`. Everything else is internal.
+// Public entry: `card_text`, whose text has at most `LONGEST` bytes. Everything else is internal.
 use card::Card;
 use card::CardRead;
 use refusal::Answer;
 use refusal::Refusal;
 ghost use mathlib.Core.Path.{_≡_};
-ghost use mathlib.Core.List.{[], _++_};
+ghost use mathlib.Core.List.{[]};
 ghost use Prim.Native.Nat.{_+_, _≤_};
 ghost use lib.ListN.{length};
 ghost use Rattle.refusal.specs.Report.{answer, refusal};
 ghost use Rattle.text.specs.Text.{line, decimal, binary};
-ghost use Rattle.printed_card.specs.Text.{modeLines, cardLines, textOf, cardText, textCard};
-ghost use Rattle.printed_card.specs.Loops.Drafts.{drafted, Holds};
+ghost use Rattle.printed_card.specs.Text.{modeLines, countLines, cardLines, textOf, cardText, longest, textCard};
+ghost use Rattle.printed_card.specs.Loops.Drafts.{Holds, Grown, Short};
+
+// No text is longer (`text-short` of proofs/).
+pub const LONGEST: usize = 108;
 
 // A text that is being made: its bytes, and how many of them there are so far.
 pub struct Draft {
-    pub bytes: [u8; 192],
+    pub bytes: [u8; LONGEST],
     pub len: usize,
 }
 
 // No text yet.
 fn blank() -> Draft
-    ensures { λ r. ⌜ Holds r [] 0 ⌝ }
+    ensures { λ r. ⌜ Holds r [] ⌝ }
 {
     Draft {
-        bytes: [0u8; 192],
+        bytes: [0u8; LONGEST],
         len: 0,
     }
 }
 
 // The text with one more line, of a name and a value.
 fn with_line(d: Draft, name: &[u8], value: &[u8]) -> Draft
-    requires { ⌜ d .len + length (line (now name) (now value)) ≤ 192 ⌝ }
-    ensures { λ r. ⌜ Holds r (drafted d ++ line (now (name .entry)) (now (value .entry))) (d .len + length (line (now (name .entry)) (now (value .entry)))) ⌝ }
+    requires { ⌜ d .len + length (line (now name) (now value)) ≤ longest ⌝ }
+    ensures { λ r. ⌜ Grown d r (line (now (name .entry)) (now (value .entry))) ⌝ }
 {
     let mut bytes = d.bytes;
     let at = d.len;
@@ -43,8 +46,8 @@ fn with_line(d: Draft, name: &[u8], value: &[u8]) -> Draft
 
 // The text with one more line, of a name and a number in decimal.
 fn with_number(d: Draft, name: &[u8], n: u64) -> Draft
-    requires { ⌜ d .len + length (now name) + 22 ≤ 192 ⌝ }
-    ensures { λ r. ⌜ Holds r (drafted d ++ line (now (name .entry)) (decimal n)) (d .len + length (now (name .entry)) + 22) ⌝ }
+    requires { ⌜ d .len + length (now name) + 22 ≤ longest ⌝ }
+    ensures { λ r. ⌜ Grown d r (line (now (name .entry)) (decimal n)) ⌝ }
 {
     let mut bytes = d.bytes;
     let at = d.len;
@@ -67,7 +70,8 @@ fn tap_digits(taps: u64) -> [u8; 11]
 
 // The lines of the mode's fields.
 fn mode_lines(c: Card) -> Draft
-    ensures { λ r. ⌜ Holds r (modeLines c) 139 ⌝ }
+    requires { ⌜ Short c ⌝ }
+    ensures { λ r. ⌜ Holds r (modeLines c) ⌝ }
 {
     let version = with_number(blank(), b"version", c.version);
     let band = with_number(version, b"band", c.band);
@@ -76,25 +80,39 @@ fn mode_lines(c: Card) -> Draft
     with_number(rate, b"modulation", c.modulation)
 }
 
+// The text with the lines of the counts, which only version 2 has. Before them are at most the 61 bytes of the mode and the taps.
+fn with_counts(d: Draft, c: Card) -> Draft
+    requires { ⌜ Short c × (d .len ≤ 61) ⌝ }
+    ensures { λ r. ⌜ Grown d r (countLines c) ⌝ }
+{
+    if c.version != 2 {
+        return d;
+    }
+    let blocks = with_number(d, b"blocks", c.blocks);
+    with_number(blocks, b"copies", c.copies)
+}
+
 // The lines of a card.
 fn card_lines(c: Card) -> Draft
-    ensures { λ r. ⌜ Holds r (cardLines c) 192 ⌝ }
+    requires { ⌜ Short c ⌝ }
+    ensures { λ r. ⌜ Holds r (cardLines c) ⌝ }
 {
     let digits = tap_digits(c.taps);
     let taps = with_line(mode_lines(c), b"taps", &digits);
-    with_number(taps, b"serial", c.serial)
+    let counts = with_counts(taps, c);
+    with_number(counts, b"serial", c.serial)
 }
 
 // The line of a refused card.
 fn refused_line(r: Refusal) -> Draft
-    ensures { λ d. ⌜ Holds d (textOf (refusal r)) 192 ⌝ }
+    ensures { λ d. ⌜ Holds d (textOf (refusal r)) ⌝ }
 {
     with_number(blank(), b"refused", refusal::number_of(r) as u64)
 }
 
 // The text of some bytes as a card.
 fn text_of(card: &[u8]) -> Draft
-    ensures { λ d. ⌜ Holds d (cardText (now (card .entry))) 192 ⌝ }
+    ensures { λ d. ⌜ Holds d (cardText (now (card .entry))) ⌝ }
 {
     match card::read_card(card) {
         CardRead::Good(c) => card_lines(c),

@@ -1,12 +1,12 @@
--- `printed_card::card_lines` meets its contract: the mode, the taps and the serial. Assumes nothing.
-use mathlib.Core.Path.{refl, ap}
-use mathlib.Core.List.{[], _∷_}
+-- `printed_card::card_lines` meets its contract: the mode, the taps, the counts and the serial. Assumes nothing.
+use mathlib.Core.Path.{_≡_}
 use Prim.Native.Nat.{_≤_}
 use native.Mathlib.Omega.{arith}
-use lib.ListN.{length, length-append}
-use Rattle.text.proofs.TextLaws.{length-binary}
+use lib.ListN.{length}
+use Rattle.text.specs.Text.{ascii, line}
 use Rattle.printed_card.specs.Text.{cardLines}
-use Rattle.printed_card.proofs.DraftLaws.{holds-as}
+use Rattle.printed_card.proofs.DraftLaws.{holds-more}
+use Rattle.printed_card.proofs.LengthLaws.{taps-line, mode-short, counts-short}
 use borrow.Author.Needs.{needs}
 use Rattle.printed_card.proofs.card_lines.Statement.{statement}
 use Rattle.printed_card.proofs.card_lines.Tie as tie
@@ -23,30 +23,41 @@ slice-aggregate-with-line c = search needs
 slice-aggregate-with-line-2 : tie.Need-slice-aggregate-with-line-2
 slice-aggregate-with-line-2 c = search needs
 
-with-line-requires : tie.Need-with-line-requires
-with-line-requires c κs =
-    let digits = c .before .before .before .tap-digits in
-    omega (arith, length-append (digits .result) (10 ∷ []), ap length (digits .ensures), length-binary 11 (c .before .before .before .before .args .c .taps))
+-- the text up to the mode's end and the taps' line to come; the text up to the taps' end; and up to the counts' end
+mode-end : (c : tie.After-mode-lines) → (c .mode-lines .result .len ≤ 44) × (length (line (ascii "taps") (c .before .tap-digits .result)) ≡ 17)
+mode-end c =
+    let digits = c .before .tap-digits in
+    let o = c .before .before in
+    (omega (arith, mode-short (o .args .c) (o .pre)), taps-line (o .args .c .taps) (digits .result) (digits .ensures))
 
--- what the draft leaves behind the taps
-taps-room : (c : tie.After-with-line) → c .with-line .result .len ≤ 156
-taps-room c =
-    let digits = c .before .before .before .before .tap-digits in
-    omega (arith, c .with-line .ensures .len-le, length-append (digits .result) (10 ∷ []), ap length (digits .ensures), length-binary 11 (c .before .before .before .before .before .args .c .taps))
+with-line-requires : tie.Need-with-line-requires
+with-line-requires c κs = omega (arith, mode-end (c .before .before))
+
+taps-end : (c : tie.After-with-line) → c .with-line .result .len ≤ 61
+taps-end c = omega (arith, mode-end (c .before .before .before))
+
+counts-end : (c : tie.After-with-counts) → c .with-counts .result .len ≤ 80
+counts-end c =
+    let o = c .before .before .before .before .before .before in
+    omega (arith, taps-end (c .before), counts-short (o .args .c) (o .pre))
+
+with-counts-requires : tie.Need-with-counts-requires
+with-counts-requires c κs = (c .before .before .before .before .before .pre, taps-end c)
 
 slice-aggregate-with-number : tie.Need-slice-aggregate-with-number
 slice-aggregate-with-number c = search needs
 
 with-number-requires : tie.Need-with-number-requires
-with-number-requires c κs = omega (arith, taps-room (c .before))
+with-number-requires c κs = omega (arith, counts-end (c .before))
 
 returns : tie.Need-returns
 unfolding cardLines
 returns c =
-    let taps = c .before .before in
-    let digits = taps .before .before .before .before .tap-digits in
-    let mode = taps .before .before .before .mode-lines .ensures in
-    holds-as _ _ _ _ 192 (c .with-number .ensures) (rw (taps .with-line .ensures .text-is, mode .text-is, digits .ensures) refl) (omega (arith, taps-room taps))
+    let counts = c .before .before in
+    let taps = counts .before in
+    let mode = taps .before .before .before in
+    rw (← mode .before .tap-digits .ensures)
+    (holds-more _ _ _ _ (holds-more _ _ _ _ (holds-more _ _ _ _ (mode .mode-lines .ensures) (taps .with-line .ensures)) (counts .with-counts .ensures)) (c .with-number .ensures))
 
 pub card-lines-spec : {M : Type 1} → statement M
 card-lines-spec =
@@ -57,6 +68,7 @@ card-lines-spec =
     slice-aggregate-with-line
     slice-aggregate-with-line-2
     with-line-requires
+    with-counts-requires
     slice-aggregate-with-number
     with-number-requires
     returns)

@@ -1,8 +1,8 @@
 -- `printed_card::mode_lines` meets its contract: five lines, one behind the other. Assumes nothing.
-use mathlib.Core.Path.{refl}
 use native.Mathlib.Omega.{arith}
 use Rattle.printed_card.specs.Text.{modeLines}
-use Rattle.printed_card.proofs.DraftLaws.{holds-as}
+use Rattle.printed_card.proofs.DraftLaws.{holds-more}
+use Rattle.printed_card.proofs.LengthLaws.{mode-fields}
 use borrow.Author.Needs.{needs}
 use Rattle.printed_card.proofs.mode_lines.Statement.{statement}
 use Rattle.printed_card.proofs.mode_lines.Tie as tie
@@ -20,25 +20,25 @@ slice-aggregate-with-number-2 : tie.Need-slice-aggregate-with-number-2
 slice-aggregate-with-number-2 c = search needs
 
 with-number-requires-2 : tie.Need-with-number-requires-2
-with-number-requires-2 c κs = omega arith
+with-number-requires-2 c κs = let o = c .before .before .before .before in omega (arith, mode-fields (o .args .c) (o .pre))
 
 slice-aggregate-with-number-3 : tie.Need-slice-aggregate-with-number-3
 slice-aggregate-with-number-3 c = search needs
 
 with-number-requires-3 : tie.Need-with-number-requires-3
-with-number-requires-3 c κs = omega arith
+with-number-requires-3 c κs = let o = c .before .before .before .before .before .before in omega (arith, mode-fields (o .args .c) (o .pre))
 
 slice-aggregate-with-number-4 : tie.Need-slice-aggregate-with-number-4
 slice-aggregate-with-number-4 c = search needs
 
 with-number-requires-4 : tie.Need-with-number-requires-4
-with-number-requires-4 c κs = omega arith
+with-number-requires-4 c κs = let o = c .before .before .before .before .before .before .before .before in omega (arith, mode-fields (o .args .c) (o .pre))
 
 slice-aggregate-with-number-5 : tie.Need-slice-aggregate-with-number-5
 slice-aggregate-with-number-5 c = search needs
 
 with-number-requires-5 : tie.Need-with-number-requires-5
-with-number-requires-5 c κs = omega arith
+with-number-requires-5 c κs = let o = c .before .before .before .before .before .before .before .before .before .before in omega (arith, mode-fields (o .args .c) (o .pre))
 
 returns : tie.Need-returns
 unfolding modeLines
@@ -48,7 +48,7 @@ returns c =
     let three = c .before .before .before .before .with-number3 .ensures in
     let four = c .before .before .with-number4 .ensures in
     let none = c .before .before .before .before .before .before .before .before .before .before .blank .ensures in
-    holds-as _ _ _ _ 139 (c .with-number5 .ensures) (rw (four .text-is, three .text-is, two .text-is, one .text-is, none .text-is) refl) (omega arith)
+    holds-more _ _ _ _ (holds-more _ _ _ _ (holds-more _ _ _ _ (holds-more _ _ _ _ (holds-more _ _ _ _ none one) two) three) four) (c .with-number5 .ensures)
 
 pub mode-lines-spec : {M : Type 1} → statement M
 mode-lines-spec =

@@ -1,8 +1,7 @@
 -- `printed_card::refused_line` meets its contract. Assumes nothing.
 use mathlib.Core.Path.{sym, ap, _∙_}
 use Rattle.text.specs.Text.{ascii, decimal, line}
-use native.Mathlib.Omega.{arith}
-use Rattle.printed_card.proofs.DraftLaws.{holds-as, text-refusal}
+use Rattle.printed_card.proofs.DraftLaws.{holds-more, holds-as, text-refusal}
 use borrow.Author.Needs.{needs}
 use Rattle.printed_card.proofs.refused_line.Statement.{statement}
 use Rattle.printed_card.proofs.refused_line.Tie as tie
@@ -25,7 +24,7 @@ with-number-requires c κs = search needs
 returns : tie.Need-returns
 returns c =
     let named = ap (λ k. line (ascii "refused") (decimal k)) (c .before .number-of .ensures) in
-    holds-as _ _ _ _ 192 (c .with-number .ensures) (rw (c .before .before .before .blank .ensures .text-is) (named ∙ sym (text-refusal (c .before .before .before .before .args .r)))) (omega arith)
+    holds-as _ _ _ (holds-more _ _ _ _ (c .before .before .before .blank .ensures) (c .with-number .ensures)) (named ∙ sym (text-refusal (c .before .before .before .before .args .r)))
 
 pub refused-line-spec : {M : Type 1} → statement M
 refused-line-spec =

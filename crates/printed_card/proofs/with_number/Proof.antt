@@ -5,7 +5,8 @@ use denote.Ref.{now}
 use lib.ListN.{length}
 use Rattle.text.specs.Text.{line, decimal}
 use Rattle.text.proofs.TextLaws.{length-line, length-decimal, places-le}
-use Rattle.printed_card.proofs.DraftLaws.{holds-more}
+use Rattle.printed_card.specs.Text.{longest}
+use Rattle.printed_card.proofs.DraftLaws.{grown-by}
 use borrow.Author.Needs.{needs}
 use Rattle.printed_card.proofs.with_number.Statement.{statement}
 use Rattle.printed_card.proofs.with_number.Tie as tie
@@ -16,19 +17,19 @@ slice-aggregate-append-number c = search needs
 append-number-requires : tie.Need-append-number-requires
 append-number-requires c κs =
     let o = c .before .before .before in
-    let long : length (o .args .d .bytes) ≡ 192 = search needs in
+    let long : length (o .args .d .bytes) ≡ longest = search needs in
     omega (arith, o .pre)
 
 returns : tie.Need-returns
 returns c =
     let o = c .before .before .before .before .before in
     let a = o .args in
-    let long : length (a .d .bytes) ≡ 192 = search needs in
+    let long : length (a .d .bytes) ≡ longest = search needs in
     let said = c .before .append-number .ensures in
     let short = length-line (now (a .name)) (decimal (a .n)) in
     let digits = length-decimal (a .n) in
     let few = places-le (a .n) .1 in
-    holds-more (a .d) _ (line (now (a .name)) (decimal (a .n))) _ (said .1) (said .0) (omega (arith, o .pre)) (omega arith)
+    grown-by (a .d) _ (line (now (a .name)) (decimal (a .n))) (said .1) (said .0) (omega (arith, o .pre))
 
 pub with-number-spec : {M : Type 1} → statement M
 with-number-spec =
