@@ -84,7 +84,7 @@ enum hplc_number {
  * each about points, places and sub-carriers. Where memcpy and memset are bound when they are first called, the dynamic linker takes some
  * stack besides, which goes by the machine.
  */
-#define HPLC_STACK_CARD 2304
+#define HPLC_STACK_CARD 1792
 #define HPLC_STACK_POINT 512
 #define HPLC_STACK_FC_SEND 8704
 #define HPLC_STACK_FC_READ 10240

@@ -32,7 +32,7 @@ case ${1-} in
   crosscheck)
     library
     reference test --features core --bin crosscheck
-    reference/target/release/crosscheck --calls "${CALLS-250000}" ${SEED+--seed "$SEED"}
+    reference/target/release/crosscheck --calls "${CALLS-280000}" ${SEED+--seed "$SEED"}
     ;;
   bench)
     library 2> /dev/null
