@@ -1,8 +1,8 @@
 #!/usr/bin/env bash
 # The tables of docs/RULES.md are those of the definitions: M, N and S of each size, Table 11, the bands and the symbols' offsets. So
 # is the table of bands in docs/CLASS.md, and what include/hplc.h prints by band: the items, the sub-carriers and the limits. The edges of
-# what slicing loses are the definitions' in docs/RULES.md and include/hplc.h. The requests that docs/RULES.md names are those of
-# docs/changes.
+# what slicing loses are the definitions' in docs/RULES.md and include/hplc.h, and so are a card's bits and copy codes in docs/RULES.md and
+# its lengths in include/hplc.h. The requests that docs/RULES.md names are those of docs/changes.
 set -u
 cd "$(dirname "$0")/.." || exit 1
 bad=0
@@ -34,6 +34,9 @@ bands_of() { awk '/^\| Band \|/ { on = 1 } on && !NF { exit } on && /^\| [0-9]/'
 
 # found FILE PATTERN: what a pattern finds in a text, its lines joined.
 found() { tr -s '\n* ' ' ' < "$1" | sed -nE "s/.*$2.*/\1/p"; }
+
+# fields PATTERN: the bits of the fields that a sentence of docs/RULES.md lists.
+fields() { found docs/RULES.md "$1" | sed 's/(0)//' | tr -cs '0-9' ' '; }
 
 # listed ITEM..: `a, b and c`.
 listed() {
@@ -99,6 +102,15 @@ same 'the ends in docs/RULES.md' "$(found docs/RULES.md 'rounded once: ([^ ]+ to
 same 'the part of f in include/hplc.h' "$(found include/hplc.h 'at most f\/8: ([^ ]+ for BPSK, [^ ]+ for QPSK and [^ ]+ for 16QAM)\.')" \
   "0x1p-$power for BPSK, $qpsk for QPSK and $qam for 16QAM"
 same 'the ends in include/hplc.h' "$(found include/hplc.h '2f \+ f\/8, ([^ ]+ to [^ ]+), both included')" "$(hex "$low" 53) to $(hex "$high" 53)"
+read -ra bits <<< "$(fields 'Version 1 has eleven bytes: ([^.]+)\.')"
+read -ra between <<< "$(fields 'between spare and serial holds ([^.]+)\.')"
+same 'the bits of a card in docs/RULES.md' "${bits[*]:0:7} 12 ${between[*]} ${bits[7]} 0 0 0 ${bits[7]}" \
+  "$(sed -n 's/^widths bytes = //p' crates/card/specs/Card.antt | tr -cs '0-9' ' ' | xargs)"
+read -ra copies <<< "$(numbers card copyCounts)"
+same 'the copy codes in docs/RULES.md' "$(found docs/RULES.md 'copy codes 0 to 5 are ([0-9, ]+ and [0-9]+) copies')" "$(listed "${copies[@]}")"
+same 'the lengths of a card in include/hplc.h' "$(sed -nE 's/^#define HPLC_CARD_(2_)?BYTES //p' include/hplc.h | xargs)" \
+  "$(sed -nE 's/^cardBytes version = cond \(eqb version 2\) ([0-9]+) ([0-9]+)$/\2 \1/p' crates/card/specs/Card.antt)"
+same 'HPLC_CARD_TEXT_MAX' "$(sed -n 's/^#define HPLC_CARD_TEXT_MAX //p' include/hplc.h)" "$(number printed_card 'longest = ')"
 requests=(docs/changes/T-*.md)
 requests=("${requests[@]##*/}")
 same 'the requests of docs/RULES.md' "$(found docs/RULES.md 'been met amend them \(([^)]+)\)')" "$(listed "${requests[@]%.md}")"
