@@ -171,9 +171,9 @@ fn mode_is_defined(band: u64, kind: u64, rate: u64, modulation: u64) -> bool {
         && (kind != 0 || modulation == 1)
 }
 
-/// The most blocks of a payload that are defined, until T-06 defines more.
+/// The most blocks of a payload that are defined, until T-07 defines more.
 const DEFINED_BLOCKS: u64 = 1;
-/// The most copies of a payload that are defined, until T-07 defines more.
+/// The most copies of a payload that are defined, until T-06 defines more.
 const DEFINED_COPIES: u64 = 1;
 
 /// Whether the counts fit their bits and are defined. Kind 0 always needs one and one.
@@ -355,10 +355,28 @@ fn lines(card: &Card) -> String {
 #[cfg(test)]
 mod tests {
     use super::*;
-    use crate::cases::{modes, Random, EXAMPLE as GOOD, SECOND_EXAMPLE};
+    use crate::cases::{modes, with_byte, Random, EXAMPLE as GOOD, SECOND_EXAMPLE};
 
     /// More than any card needs.
     const ROOM: usize = 13;
+
+    const OF_KIND_0: Fields = Fields {
+        kind: 0,
+        rate: 0,
+        ..GOOD
+    };
+
+    fn good_card(version: Version) -> Vec<u8> {
+        let fields = Fields {
+            version: version.number(),
+            ..GOOD
+        };
+        pack(&fields, version)
+    }
+
+    fn number_of(card: &[u8]) -> u32 {
+        read(card).map_or_else(|refusal| refusal.number, |_| 0)
+    }
 
     /// What is done to an output of known bytes: the answer, and the bytes written. All others must
     /// be kept, so all of them on a refusal.
@@ -542,13 +560,9 @@ mod tests {
         let large = [16, 17, 18, 257, 258, (1 << 32) + 1, (1 << 32) + 2, u64::MAX];
         for version in fits.chain(large) {
             assert_eq!(written(Fields { version, ..GOOD }), 2);
-            for layout in Version::ALL {
-                let good = Fields {
-                    version: layout.number(),
-                    ..GOOD
-                };
+            for card in Version::ALL.map(good_card) {
                 let refusal = (Report::refused(2, 0), Vec::new());
-                assert_eq!(moved_to(ROOM, &pack(&good, layout), version), refusal);
+                assert_eq!(moved_to(ROOM, &card, version), refusal);
             }
         }
     }
@@ -575,14 +589,7 @@ mod tests {
                     Report::done(needed)
                 };
                 assert_eq!(written_to(room, Fields { version, ..GOOD }).0, expected);
-                for layout in Version::ALL {
-                    let card = pack(
-                        &Fields {
-                            version: layout.number(),
-                            ..GOOD
-                        },
-                        layout,
-                    );
+                for card in Version::ALL.map(good_card) {
                     assert_eq!(moved_to(room, &card, version).0, expected);
                 }
             }
@@ -615,21 +622,15 @@ mod tests {
 
     #[test]
     fn every_fourth_byte_is_judged_by_version_spare_and_counts() {
-        let of_kind_0 = Fields {
-            kind: 0,
-            rate: 0,
-            ..GOOD
-        };
-        for good in [GOOD, of_kind_0] {
+        for good in [GOOD, OF_KIND_0] {
             for (version, spare) in [(1, 0), (2, 0), (1, 1), (2, 1), (3, 0), (0, 1)] {
+                let fields = Fields {
+                    version,
+                    spare,
+                    ..good
+                };
                 for byte in 0..=255u8 {
-                    let fields = Fields {
-                        version,
-                        spare,
-                        ..good
-                    };
-                    let mut card = pack(&fields, Version::Two);
-                    card[3] = byte;
+                    let card = with_byte(&pack(&fields, Version::Two), 3, byte);
                     let expected = match (version, spare) {
                         (1, 0) => 10,
                         (2, 0) if byte % 8 != 0 => 2,
@@ -638,8 +639,7 @@ mod tests {
                         (2, 0) => 0,
                         _ => 2,
                     };
-                    let number = read(&card).map_or_else(|refusal| refusal.number, |_| 0);
-                    assert_eq!(number, expected, "{card:02x?}");
+                    assert_eq!(number_of(&card), expected, "{card:02x?}");
                     for asked in [1, 2] {
                         assert_eq!(moved_to(ROOM, &card, asked).0.number, expected);
                     }
@@ -653,13 +653,8 @@ mod tests {
 
     #[test]
     fn more_blocks_or_copies_are_three_when_written() {
-        let of_kind_0 = Fields {
-            kind: 0,
-            rate: 0,
-            ..GOOD
-        };
         let large = [257, (1 << 32) + 1, u64::MAX];
-        for good in [GOOD, of_kind_0] {
+        for good in [GOOD, OF_KIND_0] {
             for version in [1, 2] {
                 for blocks in (0..=6).chain(large) {
                     for copies in (0..=13).chain(large) {
@@ -686,7 +681,7 @@ mod tests {
     #[test]
     fn eleven_is_last_and_for_version_1_alone() {
         // No fields reach it, so it is asked of a card that none could say.
-        let card = read(&pack(&GOOD, Version::One)).unwrap();
+        let card = read(&good_card(Version::One)).unwrap();
         for (code, count) in CODES {
             for blocks in 1..=4 {
                 let copies = count as u8;
@@ -744,7 +739,7 @@ mod tests {
         }
     }
 
-    /// Bytes of a card and a version asked for, each wrong in one or two ways: which row is named.
+    /// Cards, versions asked for and rooms that are wrong at once: which row is named.
     #[test]
     fn where_two_causes_meet_the_first_row_is_named() {
         let on = |layout, version, kind, spare| {
@@ -757,11 +752,7 @@ mod tests {
             };
             pack(&fields, layout)
         };
-        let with_byte_3 = |byte| {
-            let mut card = on(Version::Two, 2, 4, 0);
-            card[3] = byte;
-            card
-        };
+        let with_byte_3 = |byte| with_byte(&on(Version::Two, 2, 4, 0), 3, byte);
         let thirteen = [on(Version::Two, 3, 5, 1), vec![1]].concat();
         // The card, its number when it is read, and its numbers when it is moved to version 2 and
         // to version 3.
@@ -778,13 +769,12 @@ mod tests {
             (with_byte_3(0x39), 2, 2, 2),
             (with_byte_3(0xC1), 2, 2, 2),
             (with_byte_3(0xF8), 3, 3, 2),
-            // Nothing is wrong with the card but the room.
+            // Good cards: the room or the version asked for is wrong.
             (on(Version::One, 1, 4, 0), 0, 5, 2),
             (on(Version::Two, 2, 4, 0), 0, 5, 2),
         ];
         for (card, when_read, to_second, to_third) in cases {
-            let number = read(&card).map_or_else(|refusal| refusal.number, |_| 0);
-            assert_eq!(number, when_read, "{card:02x?}");
+            assert_eq!(number_of(&card), when_read, "{card:02x?}");
             for room in 0..12 {
                 assert_eq!(moved_to(room, &card, 2).0.number, to_second);
                 assert_eq!(moved_to(room, &card, 3).0.number, to_third);

@@ -86,6 +86,13 @@ pub const SECOND_EXAMPLE: Fields = Fields {
     ..EXAMPLE
 };
 
+/// A card with another byte at an index.
+pub fn with_byte(card: &[u8], index: usize, byte: u8) -> Vec<u8> {
+    let mut card = card.to_vec();
+    card[index] = byte;
+    card
+}
+
 /// Room for any answer.
 pub const AMPLE: usize = 9_900;
 

@@ -1,10 +1,11 @@
 //! The bench checks P1 to P12 of 01, the narrow bands and the second card of 02 (T-01, T-03), and
 //! the entries in all defined modes.
 
-use crate::card::{self, Version};
+use crate::card::{self, Fields, Version};
 use crate::carriers::{self, BANDS};
 use crate::cases::{
-    altered_and_lost, frame_controls, modes, Mode, Random, Reception, EXAMPLE, SECOND_EXAMPLE, TAPS,
+    altered_and_lost, frame_controls, modes, with_byte, Mode, Random, Reception, EXAMPLE,
+    SECOND_EXAMPLE, TAPS,
 };
 use crate::interface::{place_of_sub_carrier, sub_carrier_of_place, Entry};
 use crate::scrambler::{scramble, Scrambler};
@@ -223,40 +224,45 @@ fn ends_of_the_narrow_bands() {
     assert_eq!((place(4, 100), sub_carrier(4, 0)), ((3, 0), (3, 0)));
 }
 
+/// The bytes of the example card of 01, and of the same card of version 2 (02, T-03).
+const FIRST: [u8; 11] = [0x12, 0x58, 0x8E, 0x00, 0x20, 0, 0, 0, 0, 0, 1];
+const SECOND: [u8; 12] = [0x22, 0x58, 0x8E, 0x00, 0x00, 0x20, 0, 0, 0, 0, 0, 1];
+
+/// A card's bytes are printed as the text, and its fields are written as the bytes.
+fn check_card(bytes: &[u8], fields: &Fields, text: &str) {
+    assert_eq!(card::text(bytes), text);
+    let mut out = vec![0; bytes.len()];
+    assert_eq!(card::write(fields, &mut out), Report::done(bytes.len()));
+    assert_eq!(out, bytes);
+}
+
+/// Each case puts a byte at an index of a card, which must then print that number alone.
+fn check_refused(card: &[u8], cases: &[(usize, u8, u32)]) {
+    for &(index, byte, expected) in cases {
+        let text = card::text(&with_byte(card, index, byte));
+        assert_eq!(text, format!("refused {expected}\n"));
+    }
+}
+
 #[test]
 fn p11_the_card_of_the_example() {
-    let bytes = [0x12, 0x58, 0x8E, 0x00, 0x20, 0, 0, 0, 0, 0, 1];
     let text = "version 1\nband 0\nkind 4\nrate 1\nmodulation 1\ntaps 10001000111\n\
                 serial 9007199254740993\n";
-    assert_eq!(card::text(&bytes), text);
-    let mut out = [0; 11];
-    assert_eq!(card::write(&EXAMPLE, &mut out), Report::done(11));
-    assert_eq!(out, bytes);
-    let with = |index: usize, byte| {
-        let mut other = bytes;
-        other[index] = byte;
-        card::text(&other)
-    };
+    check_card(&FIRST, &EXAMPLE, text);
     for (byte, band) in [(0x16, "band 1"), (0x1A, "band 2"), (0x1E, "band 3")] {
-        assert_eq!(with(0, byte), text.replace("band 0", band));
+        let other = with_byte(&FIRST, 0, byte);
+        assert_eq!(card::text(&other), text.replace("band 0", band));
     }
-    // Refused cards print their number alone: kind 5, version 2 on eleven bytes, spare 1.
-    for (index, byte, expected) in [(1, 0xD8, 3), (0, 0x22, 10), (2, 0x8F, 2)] {
-        assert_eq!(with(index, byte), format!("refused {expected}\n"));
-    }
-    assert_eq!(card::text(&bytes[..10]), "refused 1\n");
+    // Kind 5, version 2 on eleven bytes, spare 1.
+    check_refused(&FIRST, &[(1, 0xD8, 3), (0, 0x22, 10), (2, 0x8F, 2)]);
+    assert_eq!(card::text(&FIRST[..10]), "refused 1\n");
 }
 
 #[test]
 fn the_example_as_a_card_of_version_2() {
-    let first = [0x12, 0x58, 0x8E, 0x00, 0x20, 0, 0, 0, 0, 0, 1];
-    let second = [0x22, 0x58, 0x8E, 0x00, 0x00, 0x20, 0, 0, 0, 0, 0, 1];
     let text = "version 2\nband 0\nkind 4\nrate 1\nmodulation 1\ntaps 10001000111\n\
                 blocks 1\ncopies 1\nserial 9007199254740993\n";
-    assert_eq!(card::text(&second), text);
-    let mut out = [0; 12];
-    assert_eq!(card::write(&SECOND_EXAMPLE, &mut out), Report::done(12));
-    assert_eq!(out, second);
+    check_card(&SECOND, &SECOND_EXAMPLE, text);
 
     // There and back from either end.
     let moved = |card: &[u8], version: u64| {
@@ -265,19 +271,15 @@ fn the_example_as_a_card_of_version_2() {
         assert_eq!(report, Report::done(10 + version as usize));
         out[..10 + version as usize].to_vec()
     };
-    assert_eq!(
-        (moved(&first, 2), moved(&second, 1)),
-        (second.to_vec(), first.to_vec())
-    );
-    assert_eq!(
-        (moved(&first, 1), moved(&second, 2)),
-        (first.to_vec(), second.to_vec())
-    );
-    assert_eq!(moved(&moved(&first, 2), 1), first);
-    assert_eq!(moved(&moved(&second, 1), 2), second);
+    for card in [&FIRST[..], &SECOND] {
+        assert_eq!(moved(card, 1), FIRST);
+        assert_eq!(moved(card, 2), SECOND);
+    }
+    assert_eq!(moved(&moved(&FIRST, 2), 1), FIRST);
+    assert_eq!(moved(&moved(&SECOND, 1), 2), SECOND);
 
     // Kind 5, version 1 on twelve bytes, spare 1, padding, two blocks, two copies, copy codes 6, 7.
-    for (index, byte, expected) in [
+    let others = [
         (1, 0xD8, 3),
         (0, 0x12, 10),
         (2, 0x8F, 2),
@@ -288,13 +290,10 @@ fn the_example_as_a_card_of_version_2() {
         (3, 0x08, 3),
         (3, 0x30, 3),
         (3, 0x38, 3),
-    ] {
-        let mut other = second;
-        other[index] = byte;
-        assert_eq!(card::text(&other), format!("refused {expected}\n"));
-    }
-    assert_eq!(card::text(&second[..11]), "refused 10\n");
-    assert_eq!(card::text(&[&second[..], &[0]].concat()), "refused 1\n");
+    ];
+    check_refused(&SECOND, &others);
+    assert_eq!(card::text(&SECOND[..11]), "refused 10\n");
+    assert_eq!(card::text(&[&SECOND[..], &[0]].concat()), "refused 1\n");
 }
 
 #[test]
@@ -417,21 +416,29 @@ fn both_sides_of_each_length() {
     }
 }
 
+/// Cards of frame control and of a payload, the one first that the entry serves.
+fn served_and_not(entry: Entry, version: Version) -> [Vec<u8>; 2] {
+    let (frame_control, payload) = (Mode::frame_control(0), Mode::new(0, 1, 0, 1));
+    let modes = match entry {
+        Entry::FcSend | Entry::FcRead => [frame_control, payload],
+        Entry::PayloadSend | Entry::PayloadRead => [payload, frame_control],
+    };
+    modes.map(|mode| mode.card_of(version, 5, SERIAL))
+}
+
+/// The refusal of a card at an entry, with an input and a room that are wrong besides.
+fn refusal_at(entry: Entry, card: &[u8]) -> (u32, u64) {
+    let mut out = [0xA5; 3];
+    let report = entry.call(card, &[9; 5], &mut out);
+    assert_eq!(out, [0xA5; 3]);
+    (report.number, report.value)
+}
+
 #[test]
 fn cards_are_refused_before_all_else() {
-    let good = Mode::frame_control(0).card(5, SERIAL);
-    let payload = Mode::new(0, 1, 0, 1).card(5, SERIAL);
     for entry in Entry::ALL {
-        let other = match entry {
-            Entry::FcSend | Entry::FcRead => &payload,
-            Entry::PayloadSend | Entry::PayloadRead => &good,
-        };
-        let mut out = [0xA5; 3];
-        let mut number = |card: &[u8]| {
-            let report = entry.call(card, &[9; 5], &mut out);
-            assert_eq!(out, [0xA5; 3]);
-            (report.number, report.value)
-        };
+        let [good, other] = served_and_not(entry, Version::One);
+        let number = |card: &[u8]| refusal_at(entry, card);
         assert_eq!(number(&good[..10]), (1, 10));
         assert_eq!(number(&[0xFF; 12]), (2, 0));
         assert_eq!(number(&[0xFF; 13]), (1, 13));
@@ -440,38 +447,26 @@ fn cards_are_refused_before_all_else() {
         let kind_5 = [0x12, 0x90, 0, 0, 0, 0, 0, 0, 0, 0, 0];
         assert_eq!(number(&modulation_3), (3, 0));
         assert_eq!(number(&kind_5), (3, 0));
-        assert_eq!(number(other), (3, 0));
+        assert_eq!(number(&other), (3, 0));
     }
 }
 
 #[test]
 fn cards_of_version_2_are_refused_before_all_else() {
-    let frame_control = Mode::frame_control(0);
-    let payload = Mode::new(0, 1, 0, 1);
     for entry in Entry::ALL {
-        let (served, other) = match entry {
-            Entry::FcSend | Entry::FcRead => (frame_control, payload),
-            Entry::PayloadSend | Entry::PayloadRead => (payload, frame_control),
-        };
-        let good = served.card_of(Version::Two, 5, SERIAL);
-        let mut out = [0xA5; 3];
-        let mut number = |card: &[u8]| {
-            let report = entry.call(card, &[9; 5], &mut out);
-            assert_eq!(out, [0xA5; 3]);
-            (report.number, report.value)
-        };
+        let [good, other] = served_and_not(entry, Version::Two);
+        let number = |card: &[u8]| refusal_at(entry, card);
         // The card itself is served: the input's length is judged next.
         assert_eq!(number(&good), (4, 5));
         assert_eq!(number(&good[..10]), (1, 10));
         assert_eq!(number(&[&good[..], &[0]].concat()), (1, 13));
         assert_eq!(number(&good[..11]), (10, 0));
-        let mut with = |index: usize, byte: u8| {
-            let mut card = good.clone();
-            card[index] = byte;
-            number(&card)
-        };
+        let with = |index: usize, byte: u8| number(&with_byte(&good, index, byte));
         // Version 1 on twelve bytes, whatever the fourth; the spare bit goes before it.
-        assert_eq!(with(0, good[0] - 0x10), (10, 0));
+        let first = with_byte(&good, 0, good[0] - 0x10);
+        assert_eq!(number(&first), (10, 0));
+        assert_eq!(number(&with_byte(&first, 3, 0xFF)), (10, 0));
+        assert_eq!(number(&with_byte(&first, 2, first[2] | 1)), (2, 0));
         assert_eq!(with(2, good[2] | 1), (2, 0));
         for byte in [0x01, 0x02, 0x04, 0x39, 0xFF] {
             assert_eq!(with(3, byte), (2, 0));
@@ -481,7 +476,7 @@ fn cards_of_version_2_are_refused_before_all_else() {
         }
         // Modulation 3, and a kind that the entry doesn't serve.
         assert_eq!(with(1, good[1] | 0x30), (3, 0));
-        assert_eq!(number(&other.card_of(Version::Two, 5, SERIAL)), (3, 0));
+        assert_eq!(number(&other), (3, 0));
     }
 }
 

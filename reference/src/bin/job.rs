@@ -94,7 +94,7 @@ fn main() -> ExitCode {
 mod tests {
     use super::*;
     use reference::card::Version;
-    use reference::cases::modes;
+    use reference::cases::{modes, with_byte};
 
     #[test]
     fn what_is_encoded_is_decoded() {
@@ -117,11 +117,9 @@ mod tests {
         for mode in modes() {
             let card = mode.card_of(Version::Two, 0, 0);
             assert_eq!(encode(&card[..11], &[]), b"refused 10\nvalue 0\n");
-            let mut two_blocks = card.clone();
-            two_blocks[3] = 0x40;
+            let two_blocks = with_byte(&card, 3, 0x40);
             assert_eq!(decode(&two_blocks, &[]), b"refused 3\nvalue 0\n");
-            let mut padded = card.clone();
-            padded[3] = 0x41;
+            let padded = with_byte(&card, 3, 0x41);
             assert_eq!(decode(&padded, &[]), b"refused 2\nvalue 0\n");
         }
     }

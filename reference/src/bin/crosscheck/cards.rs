@@ -1,7 +1,7 @@
 //! Cards of both versions: read, written, printed and moved.
 
 use reference::card::{self, Fields, Version};
-use reference::cases::{modes, Mode, Random, EXAMPLE, SECOND_EXAMPLE};
+use reference::cases::{modes, with_byte, Mode, Random, EXAMPLE, SECOND_EXAMPLE};
 use reference::interface::CARD_FIELDS;
 use reference::Report;
 
@@ -134,6 +134,11 @@ pub fn all_lengths(random: &mut Random) -> Vec<Vec<u8>> {
     cards
 }
 
+/// A card that says another version.
+fn with_version(card: &[u8], version: u64) -> Vec<u8> {
+    with_byte(card, 0, (version as u8) << 4 | card[0] & 15)
+}
+
 /// A card cut, or with any bytes after it.
 fn cut(mut card: Vec<u8>, length: usize, random: &mut Random) -> Vec<u8> {
     card.extend(random.bytes(30));
@@ -146,9 +151,8 @@ fn cut(mut card: Vec<u8>, length: usize, random: &mut Random) -> Vec<u8> {
 pub fn all_lengths_and_versions(random: &mut Random) -> Vec<Vec<u8>> {
     let mut cards = Vec::new();
     for length in 0..=40 {
-        for version in 0..4u8 {
-            let mut card = good_card(Version::Two, random);
-            card[0] = version << 4 | card[0] & 15;
+        for version in 0..4 {
+            let card = with_version(&good_card(Version::Two, random), version);
             cards.push(cut(card, length, random));
         }
     }
@@ -159,9 +163,7 @@ pub fn all_lengths_and_versions(random: &mut Random) -> Vec<Vec<u8>> {
 pub fn all_bytes_3(version: Version, mode: Mode, random: &mut Random) -> Vec<Vec<u8>> {
     let with = |byte| {
         let fields = mode.fields(version, random.below(2048) as u16, random.word());
-        let mut card = card::pack(&fields, Version::Two);
-        card[3] = byte;
-        card
+        with_byte(&card::pack(&fields, Version::Two), 3, byte)
     };
     (0..=255).map(with).collect()
 }
@@ -248,13 +250,12 @@ fn text_serials(checker: &mut Checker, mode: Mode, version: Version) {
     }
 }
 
-/// Every room of the longest text of a version, for it and for two refusals: a byte less is 1 or
-/// 2, and the other version in this layout is 10.
+/// Every room of the longest text of a version, for it and for two refusals: all bytes but the
+/// first, and the other version in this layout, which is 10.
 fn text_rooms(checker: &mut Checker, version: Version) {
     let mode = checker.random.pick(&modes());
     let card = mode.card_of(version, 2047, u64::MAX);
-    let mut other = card.clone();
-    other[0] = (version.other().number() as u8) << 4 | card[0] & 15;
+    let other = with_version(&card, version.other().number());
     for room in 0..=card::text(&card).len() + 2 {
         checker.card_text(&card, room);
         checker.card_text(&card[1..], room);
@@ -401,12 +402,11 @@ fn there_and_back(checker: &mut Checker, card: &[u8], version: Version) {
     );
 }
 
-/// Good and bad cards of both versions: each has another answer.
+/// Good cards of both versions, and bad ones for each number that a card is refused by.
 fn some_cards(random: &mut Random) -> Vec<Vec<u8>> {
     let mut cards = Vec::new();
     for fields in [EXAMPLE, SECOND_EXAMPLE] {
         for layout in Version::ALL {
-            // In its own layout and in the other, then with the spare bit, then with kind 5.
             cards.push(card::pack(&fields, layout));
             cards.push(card::pack(&Fields { spare: 1, ..fields }, layout));
             cards.push(card::pack(&Fields { kind: 5, ..fields }, layout));
@@ -416,11 +416,8 @@ fn some_cards(random: &mut Random) -> Vec<Vec<u8>> {
         (SECOND_EXAMPLE, &[0x01, 0x28, 0x30, 0x40][..]),
         (EXAMPLE, &[0x01, 0xFF]),
     ] {
-        for &byte in bytes {
-            let mut card = card::pack(&fields, Version::Two);
-            card[3] = byte;
-            cards.push(card);
-        }
+        let card = card::pack(&fields, Version::Two);
+        cards.extend(bytes.iter().map(|&byte| with_byte(&card, 3, byte)));
     }
     cards.extend([10, 13].map(|length| random.bytes(length)));
     cards
@@ -449,16 +446,19 @@ pub fn move_systematic(checker: &mut Checker) {
     for version in Version::ALL {
         for mode in 0..256 {
             let card = card_with(version, version.number(), mode, 0, &mut checker.random);
-            let asked = any_version(&mut checker.random);
-            checker.card_move(&card, asked.number(), CARD_ROOM);
+            move_to_either(checker, &card);
         }
     }
     for mode in both_kinds(&mut checker.random) {
         for card in all_bytes_3(Version::Two, mode, &mut checker.random) {
-            let asked = any_version(&mut checker.random);
-            checker.card_move(&card, asked.number(), CARD_ROOM);
+            move_to_either(checker, &card);
         }
     }
+}
+
+fn move_to_either(checker: &mut Checker, card: &[u8]) {
+    let asked = any_version(&mut checker.random);
+    checker.card_move(card, asked.number(), CARD_ROOM);
 }
 
 /// A version asked for: most often one of the two.
@@ -519,7 +519,7 @@ mod tests {
         let mut random = Random::new(2);
         for version in Version::ALL {
             assert_eq!(number(&good_card(version, &mut random)), 0);
-            // Band 0, kind 1, rate 1/2 and QPSK; then the other version, and the spare bit.
+            // Band 0, kind 1, rate 1/2 and QPSK, with this version, the other and none.
             let said = [version.number(), version.other().number(), 3];
             let numbers = said.map(|said| {
                 let card = card_with(version, said, 9, 0, &mut random);

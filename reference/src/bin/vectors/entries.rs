@@ -2,8 +2,8 @@
 
 use reference::card::{self, pack, Fields, Version};
 use reference::cases::{
-    all_bits, altered_and_lost, frame_controls, modes, Mode, Random, Reception, AMPLE, EXAMPLE,
-    SECOND_EXAMPLE,
+    all_bits, altered_and_lost, frame_controls, modes, with_byte, Mode, Random, Reception, AMPLE,
+    EXAMPLE, SECOND_EXAMPLE,
 };
 use reference::interface::{Entry, CARD_FIELDS, COORDINATES};
 
@@ -525,9 +525,7 @@ fn second_spoilt_cards(good: Fields) -> Vec<Vec<u8>> {
 
 /// Twelve bytes with any fourth one.
 fn with_byte_3(fields: Fields, byte: u8) -> Vec<u8> {
-    let mut card = pack(&fields, Version::Two);
-    card[3] = byte;
-    card
+    with_byte(&pack(&fields, Version::Two), 3, byte)
 }
 
 /// Every fourth byte.

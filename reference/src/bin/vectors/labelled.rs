@@ -149,8 +149,8 @@ const TOO_LARGE: [&[Change]; 7] = [
     &[(SPARE, 2)],
 ];
 
-/// The same because of the second card: version 2 with something that goes before it or behind it,
-/// and the first version that is none.
+/// What eleven bytes are refused for since there is a second card: version 2 with something that
+/// goes before it or behind it, and the first version that is none.
 const REFUSED_ON_11_BYTES: [&[Change]; 3] = [
     &[(VERSION, 2), (SPARE, 1)],
     &[(VERSION, 2), (KIND, 5)],
@@ -300,13 +300,25 @@ fn second_taken() -> Vec<Named> {
         .collect()
 }
 
-/// The example in both versions.
+/// The example in both versions, by name.
+const EXAMPLES: [(&str, Fields, Version); 2] = [
+    ("example card", EXAMPLE, Version::One),
+    ("example card of version 2", SECOND_EXAMPLE, Version::Two),
+];
+
+/// The bytes of the examples.
 fn examples() -> [Named; 2] {
-    [
-        ("example card", EXAMPLE, Version::One),
-        ("example card of version 2", SECOND_EXAMPLE, Version::Two),
-    ]
-    .map(|(label, fields, version)| (label.to_string(), pack(&fields, version)))
+    EXAMPLES.map(|(label, fields, version)| (label.to_string(), pack(&fields, version)))
+}
+
+/// The example of version 1 cut, or with zeros after it.
+fn example_of(length: usize) -> Named {
+    card_of(length, pack(&EXAMPLE, Version::One))
+}
+
+/// Both sides of the room that is needed.
+const fn about(needed: usize) -> [usize; 3] {
+    [needed - 1, needed, needed + 1]
 }
 
 /// The end of a label that names the room.
@@ -540,7 +552,7 @@ impl Cases {
             self.card_read(&label, &pack(&EXAMPLE, Version::One), room);
         }
         for length in [0, 10, 12, 40] {
-            let (label, card) = card_of(length, pack(&EXAMPLE, Version::One));
+            let (label, card) = example_of(length);
             self.card_read(&label, &card, CARD_FIELDS);
         }
         for changes in fitting() {
@@ -567,14 +579,18 @@ impl Cases {
         self.add(&label, Call::CardText, card, &[], room);
     }
 
+    /// A card printed with room about the length of its text.
+    fn printed_about(&mut self, card: &Named) {
+        for room in about(card::text(&card.1).len()) {
+            self.card_printed(card, room, &room_of(room));
+        }
+    }
+
     fn cards_printed(&mut self) {
         let [example, _] = examples();
-        for room in [84, 85, 86] {
-            self.card_printed(&example, room, &room_of(room));
-        }
+        self.printed_about(&example);
         for length in [10, 12] {
-            let card = card_of(length, pack(&EXAMPLE, Version::One));
-            self.card_printed(&card, TEXT_ROOM, "");
+            self.card_printed(&example_of(length), TEXT_ROOM, "");
         }
         for changes in fitting() {
             self.card_printed(&eleven_bytes(GOOD, changes), TEXT_ROOM, "");
@@ -585,13 +601,8 @@ impl Cases {
     /// cards of version 2.
     fn second_cards_printed(&mut self) {
         let [_, example] = examples();
-        let refused = eleven_bytes(GOOD, &[(VERSION, 2)]);
-        for card in [example, refused] {
-            let needed = card::text(&card.1).len();
-            for room in [needed - 1, needed, needed + 1] {
-                self.card_printed(&card, room, &room_of(room));
-            }
-        }
+        self.printed_about(&example);
+        self.printed_about(&eleven_bytes(GOOD, &[(VERSION, 2)]));
         for card in second_refused().iter().chain(&second_taken()) {
             self.card_printed(card, TEXT_ROOM, "");
         }
@@ -603,12 +614,16 @@ impl Cases {
         self.add(&label, Call::CardWrite, &write_card(&fields), &[], room);
     }
 
+    /// An example written with room about its length.
+    fn example_written(&mut self, (label, fields, version): (&str, Fields, Version)) {
+        for room in about(version.bytes()) {
+            self.written((label.to_string(), fields), room, &room_of(room));
+        }
+    }
+
     fn cards_written(&mut self) {
         let needed = Version::One.bytes();
-        for room in [needed - 1, needed, needed + 1] {
-            let example = ("example card".to_string(), EXAMPLE);
-            self.written(example, room, &room_of(room));
-        }
+        self.example_written(EXAMPLES[0]);
         for changes in TOO_LARGE.into_iter().chain(fitting()) {
             // Nothing is wrong with version 2 but the room.
             let room_name = if changes == [(VERSION, 2)] {
@@ -630,10 +645,7 @@ impl Cases {
         for room in [needed, needed + 1] {
             self.written(changed(GOOD, second), room, &room_of(room));
         }
-        for room in [needed - 1, needed, needed + 1] {
-            let example = ("example card of version 2".to_string(), SECOND_EXAMPLE);
-            self.written(example, room, &room_of(room));
-        }
+        self.example_written(EXAMPLES[1]);
         for version in [3, 16, 18, (1 << 32) + 1, u64::MAX] {
             self.written(changed(GOOD, &[(VERSION, version)]), needed, "");
         }
@@ -674,8 +686,7 @@ impl Cases {
     fn cards_moved(&mut self) {
         for example in examples() {
             for version in Version::ALL {
-                let needed = version.bytes();
-                for room in [needed - 1, needed, needed + 1] {
+                for room in about(version.bytes()) {
                     self.moved(&example, version.number(), room, &room_of(room));
                 }
             }
@@ -699,10 +710,7 @@ impl Cases {
             }
             self.moved(&example, 3, 0, NO_ROOM);
         }
-        let lengths = [0, 10, 12, 40].into_iter();
-        let mut cards: Vec<Named> = lengths
-            .map(|length| card_of(length, pack(&EXAMPLE, Version::One)))
-            .collect();
+        let mut cards = [0, 10, 12, 40].map(example_of).to_vec();
         let eleven = REFUSED.iter().chain(&NOT_TOGETHER);
         cards.extend(eleven.map(|changes| eleven_bytes(GOOD, changes)));
         cards.extend(second_refused());
@@ -730,9 +738,15 @@ impl Cases {
         for changes in REFUSED.iter().chain(NOT_TOGETHER.iter().filter(served)) {
             self.card_at(good, &eleven_bytes(fields(good.mode), changes));
         }
+        self.other_card_at(good, Version::One, "card");
+    }
+
+    /// A card of a version that an entry doesn't serve, and what it is called.
+    fn other_card_at(&mut self, good: &Good, version: Version, what: &str) {
         let other = other_mode(good.mode);
-        let label = format!("{} card", words(other).0);
-        self.card_at(good, &(label, pack(&fields(other), Version::One)));
+        let label = format!("{} {what}", words(other).0);
+        let (_, card) = on_bytes(version, fields(other), &[]);
+        self.card_at(good, &(label, card));
     }
 
     /// The same because there are two versions, or of cards of version 2.
@@ -755,10 +769,7 @@ impl Cases {
             self.card_at(good, &twelve_bytes_with(2, this, byte));
         }
         self.card_at(good, &twelve_bytes_with(1, this, 0xFF));
-        let other = other_mode(good.mode);
-        let label = format!("{} card of version 2", words(other).0);
-        let (_, card) = on_bytes(Version::Two, fields(other), &[]);
-        self.card_at(good, &(label, card));
+        self.other_card_at(good, Version::Two, "card of version 2");
     }
 
     /// Both sides of the input's length, then both sides of the room.
@@ -916,6 +927,13 @@ mod tests {
         for (rare, mode) in RARE.iter().zip(frame_controls()) {
             assert_eq!(rare.band, mode.band);
             assert!(mode.rarest_bits().contains(&rare.bit));
+        }
+    }
+
+    /// Each of the answers is among the lines.
+    fn check_answers(answers: &str, lines: &HashSet<String>) {
+        for answer in answers.lines() {
+            assert!(lines.contains(answer), "{answer}");
         }
     }
 
@@ -1177,10 +1195,8 @@ payload back, band 0, kind 4, rate 16/18, QPSK, bit 252, its only copy lost: 7 2
     #[test]
     fn cases_are_answered_as_01_says() {
         let text = printed(&records());
-        let lines: HashSet<&str> = text.lines().collect();
-        for answer in ANSWERS.lines() {
-            assert!(lines.contains(answer), "{answer}");
-        }
+        let lines: HashSet<String> = text.lines().map(String::from).collect();
+        check_answers(ANSWERS, &lines);
         let wrong = lines
             .iter()
             .filter(|line| line.contains("12 of 12 copies wrong: 8 "));
@@ -1219,9 +1235,7 @@ version 2 on 12 bytes, byte 3 of 28 moved to version 1: 22188e280020000000000001
                 format!("{}: {card} {output}", record.label)
             })
             .collect();
-        for answer in MOVED.lines() {
-            assert!(lines.contains(answer), "{answer}");
-        }
+        check_answers(MOVED, &lines);
     }
 
     #[test]
@@ -1278,8 +1292,6 @@ QPSK sliced, I at f, Q negative of size just above f/8: 3fe6a09e667f3bcd bfb6a09
         let slices = records.iter().filter(|record| record.call == Call::Slice);
         let lines: HashSet<String> = slices.map(sliced).collect();
         assert_eq!(lines.len(), 44);
-        for answer in SLICED.lines() {
-            assert!(lines.contains(answer), "{answer}");
-        }
+        check_answers(SLICED, &lines);
     }
 }
