@@ -4,7 +4,7 @@
 ghost use mathlib.Core.Path.{_≡_};
 ghost use mathlib.Core.Bool.{not};
 ghost use mathlib.Core.List.{_++_};
-ghost use Prim.Native.Nat.{ℕ, _+_, _-_, _*_, _%_, _<_, _≤_};
+ghost use Prim.Native.Nat.{ℕ, _+_, _-_, _*_, _/_, _%_, _^_, _<_, _≤_};
 ghost use lib.Bits.{bitXor};
 ghost use lib.Dec.{eqb};
 ghost use lib.ListN.{length, getD, drop};
@@ -83,6 +83,18 @@ pub fn number_at(bytes: &[u8], at: usize, n: usize) -> u64
         k += 1;
     }
     number
+}
+
+// The lowest n bytes of a number at the start of `out`, the highest byte first.
+pub fn put_number(number: u64, n: usize, out: &mut [u8])
+    requires { ⌜ (n ≤ 8) × (n ≤ length (now out)) ⌝ }
+    ensures { λ _. ⌜ now (out .exit) ≡ written n (λ k. number / 2 ^ (8 * (n - 1 - k)) % 256) (now (out .entry)) ⌝ }
+{
+    let mut k: usize = 0;
+    while k < n {
+        out[k] = ((number >> (8 * (n - 1 - k))) % 256) as u8;
+        k += 1;
+    }
 }
 
 // The exclusive-or of each byte with what stands at its place in `out`.

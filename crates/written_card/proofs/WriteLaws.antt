@@ -3,7 +3,7 @@ use mathlib.Core.Path.{_≡_, refl, sym, ap, _∙_}
 use mathlib.Core.Bool.{true}
 use mathlib.Core.Logic.{⊎-elim}
 use mathlib.Core.List.{List}
-use Prim.Native.Nat.{ℕ, _+_, _-_, _*_, _/_, _%_, _^_, _≤_, _<_}
+use Prim.Native.Nat.{ℕ, _+_, _-_, _*_, _/_, _%_, _^_, _<_}
 use native.Mathlib.Nat.{add-mul-div-right, add-mul-mod-self-right, add-comm, mul-assoc}
 use native.Mathlib.Omega.{arith}
 use lib.Dec.{eqb}
@@ -49,27 +49,26 @@ low-byte h s k l =
         add-comm (h * 2 ^ 64) s
         ∙ ap (λ (x : ℕ). s + x) (ap (λ (x : ℕ). h * x) power ∙ sym (mul-assoc h (2 ^ (8 * k) * 256) (2 ^ (56 - 8 * k))) ∙ ap (λ (x : ℕ). x * 2 ^ (56 - 8 * k)) (sym (mul-assoc h (2 ^ (8 * k)) 256)))
 
-module _ (bytes head serial i : ℕ) where
-  -- a byte of the head, and one of the serial
-  pub head-byte : serial < 2 ^ 64 → i < bytes → head / 2 ^ (8 * (bytes - 1 - i)) % 256 ≡ cardByte bytes head serial i
-  unfolding cardByte
-  head-byte small l =
-      let e : 8 * (bytes + 8 - 1 - i) ≡ 64 + 8 * (bytes - 1 - i) = omega arith in
-      sym
-      (byte-at (bytes + 8) (head * 2 ^ 64 + serial) i (omega arith)
-      ∙ ap (λ (x : ℕ). (head * 2 ^ 64 + serial) / 2 ^ x % 256) e
-      ∙ ap (λ (x : ℕ). x % 256) (sym (shr-shr (head * 2 ^ 64 + serial) 64 (8 * (bytes - 1 - i))))
-      ∙ ap (λ (x : ℕ). x / 2 ^ (8 * (bytes - 1 - i)) % 256) (high head 64 small))
+-- a byte of the head, and one of the serial
+pub head-byte : (bytes head serial i : ℕ) → serial < 2 ^ 64 → i < bytes → head / 2 ^ (8 * (bytes - 1 - i)) % 256 ≡ cardByte bytes head serial i
+unfolding cardByte
+head-byte bytes head serial i small l =
+    let e : 8 * (bytes + 8 - 1 - i) ≡ 64 + 8 * (bytes - 1 - i) = omega arith in
+    sym
+    (byte-at (bytes + 8) (head * 2 ^ 64 + serial) i (omega arith)
+    ∙ ap (λ (x : ℕ). (head * 2 ^ 64 + serial) / 2 ^ x % 256) e
+    ∙ ap (λ (x : ℕ). x % 256) (sym (shr-shr (head * 2 ^ 64 + serial) 64 (8 * (bytes - 1 - i))))
+    ∙ ap (λ (x : ℕ). x / 2 ^ (8 * (bytes - 1 - i)) % 256) (high head 64 small))
 
-  pub serial-byte : bytes ≤ i → i < bytes + 8 → serial / 2 ^ (8 * (bytes + 7 - i)) % 256 ≡ cardByte bytes head serial i
-  unfolding cardByte
-  serial-byte from to =
-      let e : 8 * (bytes + 8 - 1 - i) ≡ 56 - 8 * (i - bytes) = omega arith in
-      let f : 8 * (bytes + 7 - i) ≡ 56 - 8 * (i - bytes) = omega arith in
-      ap (λ (x : ℕ). serial / 2 ^ x % 256) f
-      ∙ sym
-      (byte-at (bytes + 8) (head * 2 ^ 64 + serial) i (omega arith)
-      ∙ ap (λ (x : ℕ). (head * 2 ^ 64 + serial) / 2 ^ x % 256) e ∙ low-byte head serial (i - bytes) (omega arith))
+pub serial-byte : (bytes head serial i : ℕ) → i < 8 → serial / 2 ^ (8 * (8 - 1 - i)) % 256 ≡ cardByte bytes head serial (bytes + i)
+unfolding cardByte
+serial-byte bytes head serial i l =
+    let e : 8 * (bytes + 8 - 1 - (bytes + i)) ≡ 56 - 8 * i = omega arith in
+    let f : 8 * (8 - 1 - i) ≡ 56 - 8 * i = omega arith in
+    ap (λ (x : ℕ). serial / 2 ^ x % 256) f
+    ∙ sym
+    (byte-at (bytes + 8) (head * 2 ^ 64 + serial) (bytes + i) (omega arith)
+    ∙ ap (λ (x : ℕ). (head * 2 ^ 64 + serial) / 2 ^ x % 256) e ∙ low-byte head serial i l)
 
 pub length-card : (c : Card) → length (bytesOfCard c) ≡ cardBytes (c .version)
 unfolding bytesOfCard

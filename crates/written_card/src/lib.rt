@@ -28,28 +28,13 @@ fn head_of(c: Card) -> u64
     ((mode * 2048 + c.taps) * 2 + c.spare) * 256 + counts * 8
 }
 
-// Byte i of a card whose head has so many bytes.
-fn card_byte(bytes: usize, head: u64, serial: u64, i: usize) -> u8
-    requires { ⌜ (bytes ≤ 4) × (i < bytes + 8) ⌝ }
-    ensures { λ r. ⌜ r ≡ cardByte bytes head serial i ⌝ }
-{
-    if i < bytes {
-        return ((head >> (8 * (bytes - 1 - i))) % 256) as u8;
-    }
-    ((serial >> (8 * (bytes + 7 - i))) % 256) as u8
-}
-
 // A head of so many bytes and a serial at the start of `out`.
 fn put_bytes(bytes: usize, head: u64, serial: u64, out: &mut [u8])
     requires { ⌜ (bytes ≤ 4) × (bytes + 8 ≤ length (now out)) ⌝ }
     ensures { λ _. ⌜ now (out .exit) ≡ written (bytes + 8) (cardByte bytes head serial) (now (out .entry)) ⌝ }
 {
-    let end = bytes + 8;
-    let mut i: usize = 0;
-    while i < end {
-        out[i] = card_byte(bytes, head, serial, i);
-        i += 1;
-    }
+    bits::put_number(head, bytes, out);
+    bits::put_number(serial, 8, &mut out[bytes..]);
 }
 
 // A card at the start of `out`.
