@@ -12,7 +12,7 @@ use Rattle.refusal.specs.declared.Refusal.{Refusal}
 use Rattle.refusal.specs.declared.Refusal.the-variants.{Mode}
 use Rattle.refusal.specs.Report.{done, refusal}
 use Rattle.refusal.specs.Outcome.{Row, row, firstApplicable, rowOrder, inOrder, outcome}
-use Rattle.refusal.proofs.OutcomeLaws.{NoneApplies, outcomeBy, done-same, reported-done, refused-report, passed-report, refused-outcome, passed-outcome}
+use Rattle.refusal.proofs.OutcomeLaws.{NoneApplies, none-parts, outcomeBy, done-same, reported-done, refused-report, passed-report, refused-outcome, passed-outcome}
 use Rattle.card.specs.declared.Card.{Card}
 use Rattle.card.specs.Card.{cardBytes, cardOf}
 use Rattle.card.specs.Modes.{single, defined}
@@ -92,8 +92,8 @@ module _ (first last : ℕ) (card : List ℕ) where
   unfolding gate
   gate-served c e =
       let d = cardOf card in
-      let (either, (version, (long, (mode, (kind, none))))) = reported-done (gateRows first last card) d c e .0 in
-      let is : defined d ≡ true = not-false (defined d) mode in
+      let (none, (kind, _)) = none-parts (cardRows card) kindRow (reported-done (gateRows first last card) d c e .0) in
+      let is = card-sound card none .mode in
       let (low, high) = both (leb first (d .kind)) (leb (d .kind) last) (not-false (within first last d) kind) in
       let (kinds, bands, modulations) = defined-mode (d .band) (d .kind) (d .rate) (d .modulation) (defined-card d is .0) in
       rw (gate-card c e)

@@ -88,6 +88,11 @@ abbrev pub NoneApplies : List Row → Type 0
 NoneApplies [] = Unit {0}
 NoneApplies (r ∷ rs) = (r .applies ≡ false) × NoneApplies rs
 
+-- of rows behind each other none applies
+pub none-parts : (rows rest : List Row) → NoneApplies (rows ++ rest) → NoneApplies rows × NoneApplies rest
+none-parts [] rest none = (tt, none)
+none-parts (r ∷ rows) rest (no-row, none) = let (first, last) = none-parts rows rest none in ((no-row, first), last)
+
 done-by : {A : Type 0} (rows : List Row) (a d : A) → firstApplicable rows refusal (done a) ≡ done d → NoneApplies rows × (firstApplicable rows refusal (done a) ≡ done a)
 done-by [] a d e = (tt, refl)
 done-by {A} (r ∷ rows) a d e = go (r .applies) refl e (done-by rows a d)
