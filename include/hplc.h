@@ -66,7 +66,10 @@ enum hplc_number {
     HPLC_REFUSED_COUNTS = 11
 };
 
-/* Lengths. Those of items are proved to be the lengths that the calls need, and HPLC_PAYLOAD_ITEMS_MAX to be the most of any mode. */
+/*
+ * Lengths. Those of items are proved to be the lengths that the calls need, and HPLC_PAYLOAD_ITEMS_MAX to be the most of any mode. No printed
+ * card is longer than HPLC_CARD_TEXT_MAX, which is proved too.
+ */
 #define HPLC_CARD_BYTES 11
 #define HPLC_CARD_2_BYTES 12
 #define HPLC_CARD_FIELDS 10
