@@ -7,7 +7,7 @@ use native.Mathlib.Omega.{arith}
 use lib.Dec.{eqb}
 use lib.ListN.{length, getD}
 use lib.Pow.{shr-shr}
-use borrow.Author.Tests.{eqb-true}
+use borrow.Author.Tests.{eqb-true, eq-eqb, ne-eqb}
 use Rattle.bits.specs.Bits.{field}
 use Rattle.bits.proofs.BitLaws.{field-none, field-in-byte, field-within}
 use Rattle.bits.proofs.RangeLaws.{agree}
@@ -24,8 +24,20 @@ length-either n e = go (eqb n 11) refl e
     go false is e = let z = eqb-true n 12 e in (omega arith, omega arith)
 
 -- a table of eight in place of six: codes 6 and 7 have no count
-pub count-of : (code : ℕ) → code < 8 → getD (1 ∷ 2 ∷ 4 ∷ 5 ∷ 7 ∷ 11 ∷ 0 ∷ 0 ∷ []) code 0 ≡ copyCount code
-count-of = agree 8 (λ code. getD (1 ∷ 2 ∷ 4 ∷ 5 ∷ 7 ∷ 11 ∷ 0 ∷ 0 ∷ []) code 0) copyCount tt
+abbrev pub counts : List ℕ
+counts = 1 ∷ 2 ∷ 4 ∷ 5 ∷ 7 ∷ 11 ∷ 0 ∷ 0 ∷ []
+
+pub count-of : (code : ℕ) → code < 8 → getD counts code 0 ≡ copyCount code
+count-of = agree 8 (λ code. getD counts code 0) copyCount tt
+
+-- a count that stands at a code, and one that does not
+pub count-here : (copies code : ℕ) (table : List ℕ) → table ≡ counts → code < 6 → getD table code 0 ≡ copies → eqb copies (copyCount code) ≡ true
+count-here copies code table is h e =
+    eq-eqb copies (copyCount code) (sym e ∙ ap (λ (l : List ℕ). getD l code 0) is ∙ count-of code (omega arith))
+
+pub count-elsewhere : (copies code : ℕ) (table : List ℕ) → table ≡ counts → code < 6 → (getD table code 0 ≡ copies → ⊥) → eqb copies (copyCount code) ≡ false
+count-elsewhere copies code table is h other =
+    ne-eqb copies (copyCount code) (λ e. other (ap (λ (l : List ℕ). getD l code 0) is ∙ count-of code (omega arith) ∙ sym e))
 
 left : (b : Bool) → (b || false) ≡ true → b ≡ true
 left true e = refl

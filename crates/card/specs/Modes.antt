@@ -24,7 +24,7 @@ definedMode band kind rate modulation =
 abbrev pub single : Card → Bool
 single c = eqb (c .blocks) 1 && eqb (c .copies) 1
 
--- a card's mode is defined, with one block and one copy: more are defined by T-06 and T-07, but never for kind 0
+-- a card's mode is defined, and it has one block and one copy: for kind 0 for good, for the others until T-06 and T-07 define more
 abbrev pub defined : Card → Bool
 defined c = definedMode (c .band) (c .kind) (c .rate) (c .modulation) && single c
 

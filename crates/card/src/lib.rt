@@ -78,15 +78,15 @@ fn copy_count(code: u64) -> u64
 pub fn copy_code(copies: u64) -> u64
     ensures { λ r. ⌜ r ≡ copyCode copies ⌝ }
 {
-    match copies {
-        1 => 0,
-        2 => 1,
-        4 => 2,
-        5 => 3,
-        7 => 4,
-        11 => 5,
-        _ => 6,
+    let counts = COPY_COUNTS;
+    let mut code: usize = 0;
+    while code < 6 {
+        if counts[code] == copies {
+            return code as u64;
+        }
+        code += 1;
     }
+    6
 }
 
 // The bytes of a card of some version.

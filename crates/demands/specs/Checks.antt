@@ -1,5 +1,5 @@
--- The bench checks of paper 01 that are marked P, and copies on the bands of paper 02: what the rules give beside what the papers print,
--- under one claim. Assumes nothing.
+-- The bench checks of paper 01 that are marked P, and of paper 02 copies on its bands and the second card: what the rules give beside what
+-- the papers print, under one claim. Assumes nothing.
 use mathlib.Core.List.{List, [], _∷_}
 use mathlib.Core.Path.{_≡_, refl}
 use Prim.{Unit}
