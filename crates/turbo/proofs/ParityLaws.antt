@@ -23,7 +23,7 @@ use Rattle.pair_interleaver.proofs.InterleaveLaws.{source-pair-permutes}
 use Rattle.turbo.specs.Puncture.{pattern, keptTime, keptCount}
 use Rattle.turbo.specs.Loops.Keeping.{keptFrom, twoRows, punctured, Inputs}
 use Rattle.turbo.specs.Parity.{inputOf, keptBit}
-use Rattle.turbo.proofs.PunctureLaws.{time-lt, time-first, time-second, all-count, all-time}
+use Rattle.turbo.proofs.PunctureLaws.{time-lt, time-first, time-second, every-eighth, all-count, all-time}
 
 -- ---- for callers
 
@@ -31,6 +31,18 @@ use Rattle.turbo.proofs.PunctureLaws.{time-lt, time-first, time-second,
 pub kept-binary : (kind rate taps : ℕ) (d : ℕ → ℕ) (i : ℕ) → keptBit kind rate taps d i < 2
 unfolding keptBit
 kept-binary kind rate taps d i = parity-lt kind taps (inputOf kind d (i % 2)) (keptTime kind rate (i / 2))
+
+-- kept parity bits 2 n and 2 n + 1 at rate 16/18 are bits 2 t and 2 t + 1 of the parity at rate 1/2, with t = 8 n + 7
+pub kept-among-all : (kind taps : ℕ) (d : ℕ → ℕ) (n e : ℕ) → 8 * n + 7 < pairCount kind → e < 2
+    → keptBit kind 1 taps d (2 * n + e) ≡ keptBit kind 0 taps d (2 * (8 * n + 7) + e)
+unfolding keptBit
+kept-among-all kind taps d n e h l =
+    let t : ℕ = 8 * n + 7 in
+    let side : (2 * n + e) % 2 ≡ (2 * t + e) % 2 = omega arith in
+    let here : (2 * n + e) / 2 ≡ n = omega arith in
+    let there : t ≡ (2 * t + e) / 2 = omega arith in
+    ap₂ (λ (q : ℕ) (m : ℕ). parityAt kind taps (inputOf kind d q) m) side
+    (ap (keptTime kind 1) here ∙ every-eighth kind n h ∙ sym (all-time kind 0 refl t h) ∙ ap (keptTime kind 0) there)
 
 module _ (kind : ℕ) (hk : kind < 5) (d e : ℕ → ℕ) (same : (i : ℕ) → i < 8 * blockBytes kind → d i ≡ e i) where
   pair-ext : (t : ℕ) → t < pairCount kind → pairAt d t ≡ pairAt e t

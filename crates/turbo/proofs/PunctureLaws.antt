@@ -2,17 +2,17 @@
 use mathlib.Core.Path.{_≡_, refl, sym, ap, ap₂, _∙_}
 use mathlib.Core.Bool.{true, false, _||_}
 use mathlib.Core.List.{[], _∷_}
-use Prim.Native.Nat.{ℕ, zero, suc, _+_, _-_, _*_, _/_, _%_, _≤_, _<_, _^_}
+use Prim.Native.Nat.{ℕ, zero, suc, _+_, _*_, _/_, _%_, _≤_, _<_, _^_}
 use native.Mathlib.Nat.{mod-lt}
 use native.Mathlib.Omega.{arith}
-use lib.Count.{ones, onesIn, leadingZeros, leading-le}
-use lib.Dec.{eqb, ltb, ltb→lt, leb, leb→le, lit<}
+use lib.Bits.{bitOr}
+use lib.Count.{ones, onesIn, trailingZeros}
+use lib.Dec.{eqb, lit<}
 use lib.ListN.{getD}
 use Rattle.bits.specs.Bits.{bitAt}
 use Rattle.bits.specs.Lists.{lowest}
-use Rattle.bits.specs.Ranges.{allBelow}
 use Rattle.bits.specs.Sums.{sum, count}
-use Rattle.bits.proofs.RangeLaws.{at-each, agree, agree₂, agree-tests}
+use Rattle.bits.proofs.RangeLaws.{agree, agree₂, agree-tests}
 use Rattle.bits.proofs.SumLaws.{count-append, count-ext, count-le, lowest-nth, nth}
 use Rattle.constituent.specs.Pairs.{pairCount}
 use Rattle.turbo.specs.Puncture.{pattern, kept, keptTime, keptCount}
@@ -28,10 +28,10 @@ pub kept-all : (t : ℕ) → kept 0 t ≡ true
 unfolding kept
 kept-all t = kept-mod 0 t ∙ agree-tests 16 (kept 0) (λ r. true) tt (t % 16) (mod-lt t (lit< tt))
 
--- rate 16/18 keeps t where t mod 16 is 0 or 8, and no other
-pub kept-at : (t : ℕ) → kept 1 t ≡ (eqb (t % 16) 0 || eqb (t % 16) 8)
+-- rate 16/18 keeps t where t mod 16 is 7 or 15, and no other
+pub kept-at : (t : ℕ) → kept 1 t ≡ (eqb (t % 16) 7 || eqb (t % 16) 15)
 unfolding kept
-kept-at t = kept-mod 1 t ∙ agree-tests 16 (kept 1) (λ r. eqb r 0 || eqb r 8) tt (t % 16) (mod-lt t (lit< tt))
+kept-at t = kept-mod 1 t ∙ agree-tests 16 (kept 1) (λ r. eqb r 7 || eqb r 15) tt (t % 16) (mod-lt t (lit< tt))
 
 -- the ones of each pattern, counted once
 abbrev pub onesOf : ℕ → ℕ
@@ -73,24 +73,10 @@ kept-le kind rate = omega (arith, count-le (pairCount kind) (kept rate))
 
 -- ---- the places of the pattern
 
--- the zeros before the ones that the pattern has from a place on, as the code counts them, at every rate and place
-abbrev zeros : ℕ → ℕ → ℕ
-zeros rate from = leadingZeros 32 (pattern rate % (1 * 2 ^ (16 - from) % 4294967296))
-
-pub kept-from : (rate from : ℕ) → rate < 2 → from < 16 → zeros rate from - 16 ≡ keptFrom rate from
-unfolding keptFrom kept lowest leadingZeros
-kept-from = agree₂ 2 16 (λ rate from. zeros rate from - 16) keptFrom tt
-
-pub zeros-few : (rate from : ℕ) → zeros rate from ≤ 32
-zeros-few rate from = leading-le 32 (pattern rate % (1 * 2 ^ (16 - from) % 4294967296))
-
-pub zeros-many : (rate from : ℕ) → rate < 2 → from < 16 → 16 ≤ zeros rate from
-unfolding leadingZeros
-zeros-many rate from h l =
-    leb→le 16 (zeros rate from) (at-each 16 (λ m. leb 16 (zeros rate m)) (at-each 2 (λ r. allBelow 16 (λ m. leb 16 (zeros r m))) tt rate h) from l)
-
-pub rest-some : (from : ℕ) → from < 16 → 0 < 1 * 2 ^ (16 - from) % 4294967296
-rest-some from l = ltb→lt 0 _ (at-each 16 (λ m. ltb 0 (1 * 2 ^ (16 - m) % 4294967296)) tt from l)
+-- a place and the zeros from there to the next one, as the code counts them, at every rate and place
+pub kept-from : (rate from : ℕ) → rate < 2 → from < 16 → from + trailingZeros 32 (bitOr (pattern rate) 65536 / 2 ^ from) ≡ keptFrom rate from
+unfolding keptFrom kept lowest trailingZeros
+kept-from = agree₂ 2 16 (λ rate from. from + trailingZeros 32 (bitOr (pattern rate) 65536 / 2 ^ from)) keptFrom tt
 
 -- ---- two times of every sixteen
 
@@ -123,6 +109,25 @@ count-row : (r p : ℕ) → count (16 * r + p) (kept 1) ≡ 2 * r + count p (kep
 count-row r p =
     count-append (16 * r) p (kept 1) ∙ ap₂ _+_ (count-rows r) (count-ext p (λ k. kept 1 (16 * r + k)) (kept 1) (λ k h. kept-row r k))
 
+-- a time of row r that is kept, by its place
+time-row : (kind r p : ℕ) → 16 * r + p < pairCount kind → kept 1 p ≡ true → keptTime kind 1 (2 * r + count p (kept 1)) ≡ 16 * r + p
+time-row kind r p h e = ap (keptTime kind 1) (sym (count-row r p)) ∙ kept-time kind 1 (16 * r + p) h (kept-row r p ∙ e)
+
+eighth-kept : (k : ℕ) → k < 2 → kept 1 (8 * k + 7) ≡ true
+unfolding kept
+eighth-kept = agree-tests 2 (λ k. kept 1 (8 * k + 7)) (λ k. true) tt
+
+eighth-count : (k : ℕ) → k < 2 → count (8 * k + 7) (kept 1) ≡ k
+unfolding kept count sum
+eighth-count = agree 2 (λ k. count (8 * k + 7) (kept 1)) (λ k. k) tt
+
+-- rate 16/18 keeps every eighth time, from 7 on
+pub every-eighth : (kind n : ℕ) → 8 * n + 7 < pairCount kind → keptTime kind 1 n ≡ 8 * n + 7
+every-eighth kind n h =
+    let k : n % 2 < 2 = mod-lt n (lit< tt) in
+    let e : n ≡ 2 * (n / 2) + count (8 * (n % 2) + 7) (kept 1) = omega (arith, eighth-count (n % 2) k) in
+    ap (keptTime kind 1) e ∙ time-row kind (n / 2) (8 * (n % 2) + 7) (omega arith) (eighth-kept (n % 2) k) ∙ omega arith
+
 -- the rate that does not keep all
 pub not-all : (rate : ℕ) → rate < 2 → eqb (pattern rate) 65535 ≡ false → rate ≡ 1
 not-all zero h e = let z : _≡_ {A = ℕ} 0 1 = cc in absurd (omega arith)
@@ -145,23 +150,21 @@ rows-in-block kind rate i h e l =
 module _ (kind r : ℕ) (h : 16 * r + 16 ≤ pairCount kind) where
   pub time-first : keptTime kind 1 (2 * r) ≡ 16 * r + keptFrom 1 0
   time-first =
-      let t : ℕ = 16 * r + keptFrom 1 0 in
-      let e : count t (kept 1) ≡ 2 * r = omega (arith, count-row r (keptFrom 1 0), two-places .4) in
-      ap (keptTime kind 1) (sym e) ∙ kept-time kind 1 t (omega (arith, two-places .0)) (kept-row r (keptFrom 1 0) ∙ two-places .2)
+      let e : 2 * r ≡ 2 * r + count (keptFrom 1 0) (kept 1) = omega (arith, two-places .4) in
+      ap (keptTime kind 1) e ∙ time-row kind r (keptFrom 1 0) (omega (arith, two-places .0)) (two-places .2)
 
   pub time-second : keptTime kind 1 (2 * r + 1) ≡ 16 * r + keptFrom 1 (keptFrom 1 0 + 1)
   time-second =
       let p : ℕ = keptFrom 1 (keptFrom 1 0 + 1) in
-      let t : ℕ = 16 * r + p in
-      let e : count t (kept 1) ≡ 2 * r + 1 = omega (arith, count-row r p, two-places .5) in
-      ap (keptTime kind 1) (sym e) ∙ kept-time kind 1 t (omega (arith, two-places .1)) (kept-row r p ∙ two-places .3)
+      let e : 2 * r + 1 ≡ 2 * r + count p (kept 1) = ap (_+_ (2 * r)) (sym (two-places .5)) in
+      ap (keptTime kind 1) e ∙ time-row kind r p (omega (arith, two-places .1)) (two-places .3)
 
 -- ---- a pattern of ones
 
 module _ (kind rate : ℕ) (e : pattern rate ≡ 65535) where
   all-kept : (t : ℕ) → kept rate t ≡ true
   unfolding kept
-  all-kept t = rw e (agree-tests 16 (λ r. eqb (bitAt (15 - r) 65535) 1) (λ r. true) tt (t % 16) (mod-lt t (lit< tt)))
+  all-kept t = rw e (agree-tests 16 (λ r. eqb (bitAt r 65535) 1) (λ r. true) tt (t % 16) (mod-lt t (lit< tt)))
 
   all-counted : (t : ℕ) → count t (kept rate) ≡ t
   unfolding count sum

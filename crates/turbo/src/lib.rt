@@ -17,8 +17,8 @@ ghost use Rattle.turbo.specs.Puncture.{pattern, keptCount};
 ghost use Rattle.turbo.specs.Loops.Keeping.{Puncturing, keptFrom, twoRows, punctured, Inputs};
 ghost use Rattle.turbo.specs.Parity.{keptBit};
 
-// The puncturing pattern of each rate, its first place in the highest bit.
-const KEPT: [u16; 2] = [0b1111111111111111, 0b1000000010000000];
+// The puncturing pattern of each rate as printed; its places count from the right, the lowest bit.
+const KEPT: [u32; 2] = [0b1111111111111111, 0b1000000010000000];
 
 // The pairs of a block.
 fn pairs(kind: usize) -> usize
@@ -28,14 +28,13 @@ fn pairs(kind: usize) -> usize
     4 * card::block_bytes(kind)
 }
 
-// The first place of the pattern that is kept, from a place on, or 16.
+// The first place of the pattern that is kept, from a place on, or 16: a one stands behind the last place.
 fn next_kept(rate: usize, from: usize) -> usize
     requires { ⌜ (rate < 2) × (from < 16) ⌝ }
     ensures { λ r. ⌜ r ≡ keptFrom rate from ⌝ }
 {
-    let pattern = KEPT[rate] as u32;
-    let rest = pattern % (1u32 << (16 - from));
-    u32::leading_zeros(rest) as usize - 16
+    let ended = KEPT[rate] | 65536;
+    from + u32::trailing_zeros(ended >> from) as usize
 }
 
 // Whether the parity bits of every time are kept.
@@ -51,7 +50,7 @@ pub fn kept_count(kind: usize, rate: usize) -> usize
     requires { ⌜ (kind < 5) × (rate < 2) ⌝ }
     ensures { λ r. ⌜ r ≡ keptCount kind rate ⌝ }
 {
-    let ones = u16::count_ones(KEPT[rate]) as usize;
+    let ones = u32::count_ones(KEPT[rate]) as usize;
     pairs(kind) / 8 * ones
 }
 

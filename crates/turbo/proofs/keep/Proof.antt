@@ -63,7 +63,7 @@ two-rows-requires : tie.Need-two-rows-requires Inv-loop μ-loop
 two-rows-requires c κs =
     let z = entry c in
     let (first, second) = places c in
-    (omega (arith, in-block c, z .pre .whole), z .pre .short, first, second)
+    (omega (arith, in-block c, z .pre .whole), z .pre .short, omega (arith, first, second), omega (arith, first, second))
 
 slice-write-out : tie.Need-slice-write-out Inv-loop μ-loop
 slice-write-out c = omega (arith, c .before .loop-test .taken, c .before .before .loop .inv .2, entry (c .before) .pre .room, c .before .before .before .kept-count .ensures)
