@@ -35,7 +35,7 @@ extern "C" {
 /* The version of this interface. hplc_version() gives that of the library: the same number where both belong together. */
 #define HPLC_VERSION_MAJOR 2
 #define HPLC_VERSION_MINOR 0
-#define HPLC_VERSION_PATCH 0
+#define HPLC_VERSION_PATCH 1
 #define HPLC_VERSION (HPLC_VERSION_MAJOR * 10000 + HPLC_VERSION_MINOR * 100 + HPLC_VERSION_PATCH)
 
 /* The numbers, in the order in which their causes are checked, and what comes with each as value[0]. */
