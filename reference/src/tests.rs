@@ -1,5 +1,5 @@
-//! The bench checks P1 to P12 of 01, the narrow bands and the second card of 02 (T-01, T-03), and
-//! the entries in all defined modes.
+//! The bench checks P1 to P12 of 01, the narrow bands, the second card and the puncturing of 02
+//! (T-01, T-03, T-04), and the entries in all defined modes.
 
 use crate::card::{self, Fields, Version};
 use crate::carriers::{self, BANDS};
@@ -9,7 +9,7 @@ use crate::cases::{
 };
 use crate::interface::{place_of_sub_carrier, sub_carrier_of_place, Entry};
 use crate::scrambler::{scramble, Scrambler};
-use crate::turbo::{interleaved_from, SIZES};
+use crate::turbo::{interleaved_from, PUNCTURE_ROW, SIZES};
 use crate::{interleaver, turbo, Report};
 
 const SERIAL: u64 = 0xFEDC_BA98_7654_3210;
@@ -53,6 +53,25 @@ fn bits_of(bytes: &[u8]) -> Vec<u8> {
         .collect()
 }
 
+/// The kept parity bits of the bytes that go into the encoders.
+fn parity_of(mode: Mode, taps: u16, block: &[u8]) -> Vec<u8> {
+    let mut parity = vec![0; turbo::kept_parity(mode.kind, mode.rate)];
+    turbo::encode(mode.kind, mode.rate, taps, block, &mut parity);
+    parity
+}
+
+/// The items of a block; `parity` makes its kept parity bits of what goes into the encoders.
+fn items_with(mode: Mode, block: &[u8], parity: impl Fn(&[u8]) -> Vec<u8>) -> Vec<u8> {
+    let mut input = block.to_vec();
+    if mode.kind > 0 {
+        scramble(&mut input);
+    }
+    let joined = [bits_of(&input), parity(&input)].concat();
+    let mut coded = vec![0; mode.coded()];
+    interleaver::shuffle(mode.kind, mode.rate, &joined, &mut coded);
+    item_bits(mode).iter().map(|&bit| coded[bit]).collect()
+}
+
 /// What a reading side must answer, by the words of 01 and by other code than the entries'.
 fn plain_read(mode: Mode, taps: u16, items: &[u8]) -> Result<Vec<u8>, Report> {
     if let Some(n) = (0..items.len()).find(|&n| ![0, 1, 2].contains(&items[n])) {
@@ -74,8 +93,7 @@ fn plain_read(mode: Mode, taps: u16, items: &[u8]) -> Result<Vec<u8>, Report> {
         .chunks(8)
         .map(|bits| (0..8).map(|k| bits[k] << (7 - k)).sum())
         .collect();
-    let mut anew = vec![0; parity.len()];
-    turbo::encode(mode.kind, mode.rate, taps, &block, &mut anew);
+    let anew = parity_of(mode, taps, &block);
     let wrong = (0..parity.len()).filter(|&n| anew[n] != parity[n]).count();
     if wrong > 0 {
         return Err(Report::refused(8, wrong as u64));
@@ -362,18 +380,48 @@ fn items_are_the_coded_bits_of_the_scrambled_block() {
     let taps = 731;
     for mode in modes() {
         let block = random.bytes(mode.bytes());
-        let mut input = block.clone();
-        if mode.kind > 0 {
-            scramble(&mut input);
-        }
-        let mut joined = bits_of(&input);
-        let mut parity = vec![0; mode.coded() - joined.len()];
-        turbo::encode(mode.kind, mode.rate, taps, &input, &mut parity);
-        joined.extend(parity);
-        let mut coded = vec![0; mode.coded()];
-        interleaver::shuffle(mode.kind, mode.rate, &joined, &mut coded);
-        let expected: Vec<u8> = item_bits(mode).iter().map(|&bit| coded[bit]).collect();
+        let expected = items_with(mode, &block, |input| parity_of(mode, taps, input));
         assert_eq!(sent(mode, taps, &block), expected);
+    }
+}
+
+#[test]
+fn blocks_punctured_by_the_old_reading_differ_in_parity_nibbles_and_are_refused() {
+    // By T-04 the printed row's lowest place comes first, by the old reading its highest (D7).
+    let lowest_first = |t: usize| PUNCTURE_ROW >> (t % 16) & 1 == 1;
+    let highest_first = |t: usize| PUNCTURE_ROW >> (15 - t % 16) & 1 == 1;
+    let mut random = Random::new(7);
+    for mode in modes().into_iter().filter(|mode| mode.rate == 1) {
+        for taps in TAPS {
+            let block = random.bytes(mode.bytes());
+            let punctured = |reading: fn(usize) -> bool| {
+                items_with(mode, &block, |input| {
+                    let all = parity_of(Mode { rate: 0, ..mode }, taps, input);
+                    let kept = (0..all.len() / 2).filter(|&t| reading(t));
+                    kept.flat_map(|t| [all[2 * t], all[2 * t + 1]]).collect()
+                })
+            };
+            let (new, old) = (punctured(lowest_first), punctured(highest_first));
+            assert_eq!(sent(mode, taps, &block), new);
+
+            // Parity is the fourth nibble of each group of nine (D4).
+            let differs = |bit: &usize| old[*bit] != new[*bit];
+            let differing: Vec<usize> = (0..mode.coded()).filter(differs).collect();
+            assert!(differing.iter().all(|bit| bit / 4 % 9 == 3));
+
+            let mut out = vec![0xA5; mode.bytes()];
+            let (card, (_, read)) = (mode.card(taps, SERIAL), mode.entries());
+            let report = read.call(&card, &old, &mut out);
+            if taps == 0 {
+                // All parity is 0 by either reading.
+                assert!(differing.is_empty());
+                assert_eq!((report, out), (Report::done(block.len()), block));
+            } else {
+                assert!(!differing.is_empty());
+                assert_eq!(report, Report::refused(8, differing.len() as u64));
+                assert!(out.iter().all(|&byte| byte == 0xA5));
+            }
+        }
     }
 }
 
@@ -546,8 +594,7 @@ fn the_count_of_refusal_8() {
             for _ in 0..3 {
                 change[random.below(mode.bytes())] ^= 1 << random.below(8);
             }
-            let mut parity = vec![0; mode.coded() - 8 * mode.bytes()];
-            turbo::encode(mode.kind, mode.rate, taps, &change, &mut parity);
+            let parity = parity_of(mode, taps, &change);
             let count = parity.iter().filter(|&&bit| bit == 1).count();
 
             let block = random.bytes(mode.bytes());

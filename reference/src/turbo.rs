@@ -1,4 +1,5 @@
-//! The two encoders and the ring (01, "The two encoders and the ring"; 000, 5.1.5.3).
+//! The two encoders and the ring (01, "The two encoders and the ring"; 02, T-04; 000, 5.1.5.3; 004,
+//! 5.1.5.3.4; D7).
 //!
 //! A state is three bits written as a number: s1 is worth 4, s2 is worth 2 and s3 is worth 1.
 //! A pair is two bits written as a number: u1 is worth 2 and u2 is worth 1.
@@ -205,11 +206,13 @@ pub fn interleaved_from(size: &Size) -> impl Iterator<Item = usize> + '_ {
     })
 }
 
-/// Whether puncturing keeps p(t) and q(t): all at rate 1/2; at 16/18 those at the ones of Table 10
-/// of 000 read from the left (D7).
+/// The row of puncturing at 16/18 as 000 and 004 print it (Table 10), the same for p and for q.
+pub(crate) const PUNCTURE_ROW: u16 = 0b1000_0000_1000_0000;
+
+/// Whether puncturing keeps p(t) and q(t): all at rate 1/2; at 16/18 where the row has a one at
+/// place t mod 16, counted from 0 and from the right, the low place (004, 5.1.5.3.4; D7).
 const fn keeps(rate: u8, t: usize) -> bool {
-    const ROW: u16 = 0b1000_0000_1000_0000;
-    rate == 0 || ROW >> (15 - t % 16) & 1 == 1
+    rate == 0 || PUNCTURE_ROW >> (t % 16) & 1 == 1
 }
 
 /// How many parity bits puncturing keeps.
@@ -255,6 +258,7 @@ pub fn encode(kind: u8, rate: u8, taps: u16, block: &[u8], kept: &mut [u8]) {
 #[cfg(test)]
 mod tests {
     use super::*;
+    use crate::cases::TAPS;
 
     /// Some bytes that differ with the seed.
     fn bytes(length: usize, mut seed: u32) -> Vec<u8> {
@@ -304,6 +308,12 @@ mod tests {
         }
     }
 
+    /// I(x) as 01 writes it.
+    fn plain_from(size: &Size, x: usize) -> usize {
+        let (n, l) = (size.table.len(), size.pairs());
+        (usize::from(size.table[x % n]) + l - x / n * n) % l
+    }
+
     #[test]
     fn residues_differ_and_every_pair_is_read_once() {
         for size in &SIZES {
@@ -316,8 +326,7 @@ mod tests {
 
             let mut from: Vec<usize> = interleaved_from(size).collect();
             for (x, &i) in from.iter().enumerate() {
-                let l = size.pairs();
-                assert_eq!(i, (usize::from(size.table[x % n]) + l - x / n * n) % l);
+                assert_eq!(i, plain_from(size, x));
             }
             from.sort_unstable();
             assert!(from.into_iter().eq(0..size.pairs()));
@@ -363,16 +372,67 @@ mod tests {
         }
     }
 
-    #[test]
-    fn puncturing_keeps_every_eighth() {
-        let block = bytes(520, 7);
-        let mut all = vec![9; 4160];
-        let mut kept = vec![9; 520];
-        encode(4, 0, 731, &block, &mut all);
-        encode(4, 1, 731, &block, &mut kept);
-        for (n, pq) in kept.chunks(2).enumerate() {
-            assert_eq!(pq, &all[16 * n..16 * n + 2]);
+    /// The parity of one encoder: pass one goes from zero to SN, pass two starts at SN times M.
+    /// M is written out anew, since that of `SIZES` is under test.
+    fn plain_parity(taps: &str, bytes: usize, pairs: &[[u8; 2]]) -> Vec<u8> {
+        let m = match bytes {
+            136 => [[0, 1, 1], [1, 0, 0], [0, 1, 0]],
+            264 => [[1, 0, 1], [1, 1, 1], [1, 1, 0]],
+            _ => [[0, 0, 1], [1, 0, 1], [1, 1, 1]],
+        };
+        let sn = pairs.iter().fold([0; 3], |s, &u| plain_step(taps, s, u).0);
+        let mut s = [0, 1, 2].map(|j| (sn[0] * m[0][j] + sn[1] * m[1][j] + sn[2] * m[2][j]) % 2);
+        let mut parity = Vec::new();
+        for &u in pairs {
+            let (next, bit) = plain_step(taps, s, u);
+            parity.push(bit);
+            s = next;
         }
+        parity
+    }
+
+    #[test]
+    fn parity_is_as_the_paper_says_for_every_size() {
+        for (kind, size) in (0..).zip(&SIZES) {
+            for taps in TAPS {
+                let block = bytes(size.bytes, u32::from(taps));
+                let bit = |n: usize| block[n / 8] >> (7 - n % 8) & 1;
+                let pair = |x: usize| [bit(2 * x), bit(2 * x + 1)];
+                let interleaved = |x: usize| match (x % 2, pair(plain_from(size, x))) {
+                    (0, [u1, u2]) => [u2, u1],
+                    (_, unchanged) => unchanged,
+                };
+                let pairs: Vec<[u8; 2]> = (0..size.pairs()).map(pair).collect();
+                let mixed: Vec<[u8; 2]> = (0..size.pairs()).map(interleaved).collect();
+
+                let digits = format!("{taps:011b}");
+                let p = plain_parity(&digits, size.bytes, &pairs);
+                let q = plain_parity(&digits, size.bytes, &mixed);
+                let expected: Vec<u8> = p.into_iter().zip(q).flat_map(|(p, q)| [p, q]).collect();
+                let mut all = vec![9; 2 * size.pairs()];
+                encode(kind, 0, taps, &block, &mut all);
+                assert_eq!(all, expected, "{} bytes, taps {taps}", size.bytes);
+            }
+        }
+    }
+
+    #[test]
+    fn puncturing_keeps_every_eighth_from_7() {
+        for taps in TAPS {
+            for seed in 7..12 {
+                let block = bytes(520, seed);
+                let mut all = vec![9; 4160];
+                let mut kept = vec![9; 520];
+                encode(4, 0, taps, &block, &mut all);
+                encode(4, 1, taps, &block, &mut kept);
+                for n in 0..260 {
+                    let t = 8 * n + 7;
+                    assert_eq!(kept[2 * n..2 * n + 2], all[2 * t..2 * t + 2]);
+                }
+            }
+        }
+        // No other t is kept. The blocks can't show it: `encode` drops what it has no room for.
+        assert!((0..2080).filter(|&t| keeps(1, t)).eq((7..2080).step_by(8)));
         let counts: Vec<usize> = (0..5).map(|kind| kept_parity(kind, 0)).collect();
         assert_eq!(counts, [128, 576, 1088, 2112, 4160]);
         assert_eq!(kept_parity(4, 1), 520);
