@@ -81,10 +81,13 @@ kept-from = agree₂ 2 16 (λ rate from. from + trailingZeros 32 (bitOr (pattern
 -- ---- two times of every sixteen
 
 -- the two places that rate 16/18 keeps, and how many are kept before each
-two-places : (keptFrom 1 0 < 16) × (keptFrom 1 (keptFrom 1 0 + 1) < 16) × (kept 1 (keptFrom 1 0) ≡ true) × (kept 1 (keptFrom 1 (keptFrom 1 0 + 1)) ≡ true)
-    × (count (keptFrom 1 0) (kept 1) ≡ 0) × (count (keptFrom 1 (keptFrom 1 0 + 1)) (kept 1) ≡ 1)
-unfolding keptFrom kept lowest count sum
-two-places = (lit< tt, lit< tt, refl, refl, refl, refl)
+place-kept : (k : ℕ) → k < 2 → kept 1 (8 * k + 7) ≡ true
+unfolding kept
+place-kept = agree-tests 2 (λ k. kept 1 (8 * k + 7)) (λ k. true) tt
+
+place-count : (k : ℕ) → k < 2 → count (8 * k + 7) (kept 1) ≡ k
+unfolding kept count sum
+place-count = agree 2 (λ k. count (8 * k + 7) (kept 1)) (λ k. k) tt
 
 -- a row has the places of the first
 kept-row : (r k : ℕ) → kept 1 (16 * r + k) ≡ kept 1 k
@@ -109,24 +112,14 @@ count-row : (r p : ℕ) → count (16 * r + p) (kept 1) ≡ 2 * r + count p (kep
 count-row r p =
     count-append (16 * r) p (kept 1) ∙ ap₂ _+_ (count-rows r) (count-ext p (λ k. kept 1 (16 * r + k)) (kept 1) (λ k h. kept-row r k))
 
--- a time of row r that is kept, by its place
-time-row : (kind r p : ℕ) → 16 * r + p < pairCount kind → kept 1 p ≡ true → keptTime kind 1 (2 * r + count p (kept 1)) ≡ 16 * r + p
-time-row kind r p h e = ap (keptTime kind 1) (sym (count-row r p)) ∙ kept-time kind 1 (16 * r + p) h (kept-row r p ∙ e)
-
-eighth-kept : (k : ℕ) → k < 2 → kept 1 (8 * k + 7) ≡ true
-unfolding kept
-eighth-kept = agree-tests 2 (λ k. kept 1 (8 * k + 7)) (λ k. true) tt
-
-eighth-count : (k : ℕ) → k < 2 → count (8 * k + 7) (kept 1) ≡ k
-unfolding kept count sum
-eighth-count = agree 2 (λ k. count (8 * k + 7) (kept 1)) (λ k. k) tt
-
 -- rate 16/18 keeps every eighth time, from 7 on
 pub every-eighth : (kind n : ℕ) → 8 * n + 7 < pairCount kind → keptTime kind 1 n ≡ 8 * n + 7
 every-eighth kind n h =
-    let k : n % 2 < 2 = mod-lt n (lit< tt) in
-    let e : n ≡ 2 * (n / 2) + count (8 * (n % 2) + 7) (kept 1) = omega (arith, eighth-count (n % 2) k) in
-    ap (keptTime kind 1) e ∙ time-row kind (n / 2) (8 * (n % 2) + 7) (omega arith) (eighth-kept (n % 2) k) ∙ omega arith
+    let p : ℕ = 8 * (n % 2) + 7 in
+    let t : ℕ = 16 * (n / 2) + p in
+    let l : n % 2 < 2 = mod-lt n (lit< tt) in
+    let e : n ≡ count t (kept 1) = omega (arith, count-row (n / 2) p, place-count (n % 2) l) in
+    ap (keptTime kind 1) e ∙ kept-time kind 1 t (omega arith) (kept-row (n / 2) p ∙ place-kept (n % 2) l) ∙ omega arith
 
 -- the rate that does not keep all
 pub not-all : (rate : ℕ) → rate < 2 → eqb (pattern rate) 65535 ≡ false → rate ≡ 1
@@ -134,10 +127,14 @@ not-all zero h e = let z : _≡_ {A = ℕ} 0 1 = cc in absurd (omega arith)
 not-all (suc zero) h e = refl
 not-all (suc (suc rate)) h e = absurd (omega arith)
 
--- both places are in their row
-pub places-lt : (rate : ℕ) → rate ≡ 1 → (keptFrom rate 0 < 15) × (keptFrom rate (keptFrom rate 0 + 1) < 16)
+-- the places as the search finds them
+places-found : (keptFrom 1 0 ≡ 7) × (keptFrom 1 (keptFrom 1 0 + 1) ≡ 15)
 unfolding keptFrom kept lowest
-places-lt rate e = rw e (lit< tt, lit< tt)
+places-found = (refl, refl)
+
+-- both are in their row
+pub places-lt : (rate : ℕ) → rate ≡ 1 → (keptFrom rate 0 < 15) × (keptFrom rate (keptFrom rate 0 + 1) < 16)
+places-lt rate e = rw e (omega (arith, places-found .0), omega (arith, places-found .1))
 
 -- two rows for each byte that is kept are in the block
 pub rows-in-block : (kind rate i : ℕ) → kind < 5 → rate ≡ 1 → i < keptCount kind rate / 8 → 32 * i + 32 ≤ pairCount kind
@@ -149,15 +146,10 @@ rows-in-block kind rate i h e l =
 -- the times that are kept: two of row r
 module _ (kind r : ℕ) (h : 16 * r + 16 ≤ pairCount kind) where
   pub time-first : keptTime kind 1 (2 * r) ≡ 16 * r + keptFrom 1 0
-  time-first =
-      let e : 2 * r ≡ 2 * r + count (keptFrom 1 0) (kept 1) = omega (arith, two-places .4) in
-      ap (keptTime kind 1) e ∙ time-row kind r (keptFrom 1 0) (omega (arith, two-places .0)) (two-places .2)
+  time-first = every-eighth kind (2 * r) (omega arith) ∙ omega (arith, places-found .0)
 
   pub time-second : keptTime kind 1 (2 * r + 1) ≡ 16 * r + keptFrom 1 (keptFrom 1 0 + 1)
-  time-second =
-      let p : ℕ = keptFrom 1 (keptFrom 1 0 + 1) in
-      let e : 2 * r + 1 ≡ 2 * r + count p (kept 1) = ap (_+_ (2 * r)) (sym (two-places .5)) in
-      ap (keptTime kind 1) e ∙ time-row kind r p (omega (arith, two-places .1)) (two-places .3)
+  time-second = every-eighth kind (2 * r + 1) (omega arith) ∙ omega (arith, places-found .1)
 
 -- ---- a pattern of ones
 

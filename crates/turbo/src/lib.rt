@@ -17,7 +17,7 @@ ghost use Rattle.turbo.specs.Puncture.{pattern, keptCount};
 ghost use Rattle.turbo.specs.Loops.Keeping.{Puncturing, keptFrom, twoRows, punctured, Inputs};
 ghost use Rattle.turbo.specs.Parity.{keptBit};
 
-// The puncturing pattern of each rate as printed; its places count from the right, the lowest bit.
+// The puncturing pattern of each rate, as printed. Place 0 is the rightmost, the lowest bit.
 const KEPT: [u32; 2] = [0b1111111111111111, 0b1000000010000000];
 
 // The pairs of a block.
@@ -28,7 +28,7 @@ fn pairs(kind: usize) -> usize
     4 * card::block_bytes(kind)
 }
 
-// The first place of the pattern that is kept, from a place on, or 16: a one stands behind the last place.
+// The first place of the pattern that is kept, from a place on, or 16, where a one is set behind the last place.
 fn next_kept(rate: usize, from: usize) -> usize
     requires { ⌜ (rate < 2) × (from < 16) ⌝ }
     ensures { λ r. ⌜ r ≡ keptFrom rate from ⌝ }
