@@ -71,7 +71,7 @@ done
 same 'offset at 16/18' "$(row '| 520 | 16/18 |' 4)" "${offset[5]}"
 same 'step at 16/18' "$(row '| 520 | 16/18 |' 5)" "${step[5]}"
 pattern=$(sed -nE 's/^pattern rate = getD \(0b1{16} ∷ 0b([01]{16}) ∷ \[\]\) rate 0$/\1/p' crates/turbo/specs/Puncture.antt)
-times=$(sed -nE 's/^pub kept-at : .*\(eqb \(t % 16\) ([0-9]+) \|\| eqb \(t % 16\) ([0-9]+)\)$/\1 or \2/p' crates/turbo/proofs/PunctureLaws.antt)
+times=$(sed -nE 's/^pub kept-at : .*eqb .t % 16. ([0-9]+) .. eqb .t % 16. ([0-9]+)\)$/\1 or \2/p' crates/turbo/proofs/PunctureLaws.antt)
 same 'the puncturing row of docs/RULES.md' "$(found docs/RULES.md 'at the ones of ([01]+) read from the right,')" "$pattern"
 same 'the kept times of docs/RULES.md' "$(found docs/RULES.md 'so t mod 16 is ([0-9]+ or [0-9]+) \(D7\)')" "$times"
 same 'the kept bits of docs/RULES.md' "$(found docs/RULES.md '\(D7\); ([0-9]+) parity bits remain')" \
