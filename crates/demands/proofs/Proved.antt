@@ -36,9 +36,9 @@ use Rattle.payload_layout.proofs.ItemLaws.{sent-carries}
 use Rattle.payload_layout.specs.Layouts.{symbolBits, layoutFor, layoutOf, items}
 use Rattle.payload.specs.Entries.{layoutOfCard, sendRows, send as payloadSend, readRows as payloadReadRows, read as payloadRead}
 use Rattle.payload.specs.Words.{made as payloadMade}
-use Rattle.payload.proofs.ModeLaws.{layout-items}
+use Rattle.payload.proofs.ModeLaws.{mode-pad, layout-within, layout-items}
 use Rattle.payload.proofs.ReturnLaws.{blockBits, send-good as payload-sent, made-is as payload-made-is, clean as payload-clean, survives as payload-back, made-length as payload-length, made-binary as payload-binary}
-use Rattle.demands.specs.Demands.{Keeps, Outgoing, PayloadOutgoing, CardWritten, CardReadAgain, CardMoved, CleanReturn, PayloadCleanReturn, PayloadSurvives, Lanes, Fewest, Survives, BestPossible, BandsOfCards, Lengths}
+use Rattle.demands.specs.Demands.{Keeps, Outgoing, PayloadOutgoing, CardWritten, CardReadAgain, CardMoved, CleanReturn, PayloadCleanReturn, PayloadSurvives, Lanes, Fewest, Survives, BestPossible, BandsOfCards, PadWithin, CardPadWithin, Lengths}
 
 -- ---- Demand 1
 
@@ -151,6 +151,12 @@ bands-of-cards band kind rate modulation = apart (leb band 3) _ _ _ _ ∙ ap (λ
     known : (b : Bool) → leb band 3 ≡ b → b ≡ ltb band bandCount
     known true e = sym (lt-ltb band bandCount (omega (arith, leb-true band 3 e)))
     known false e = sym (le-ltb band bandCount (omega (arith, leb-false band 3 e)))
+
+pub pad-within : PadWithin
+pad-within band kind rate modulation is other = mode-pad band kind rate modulation is (omega (arith, other))
+
+pub card-pad-within : CardPadWithin
+card-pad-within card good = layout-within (cardOf card) (gate-served 1 4 card (cardOf card) good)
 
 pub lengths : Lengths
 unfolding itemCount carrierCount carriers offsets

@@ -29,7 +29,7 @@ use Rattle.votes.specs.Damage.{Damage, altered, lost}
 use Rattle.bands.specs.Bands.{bandCount, carriers, offsets}
 use Rattle.diversity.specs.Lanes.{laneBit, carrierCount, itemCount}
 use Rattle.diversity.specs.Copies.{copiesOn, fewestCopies, bandFewest, bandMost}
-use Rattle.payload_layout.specs.Layouts.{items as itemsOf}
+use Rattle.payload_layout.specs.Layouts.{layoutOf, items as itemsOf}
 use Rattle.payload_layout.specs.Items.{carries}
 use Rattle.payload.specs.Entries.{layoutOfCard, send as payloadSend, read as payloadRead}
 use Rattle.payload.specs.Words.{GoodCard as GoodPayloadCard, Block, made as payloadMade}
@@ -166,6 +166,17 @@ PayloadSurvives =
 -- A card can name every band and no other number: on each the same modes are defined.
 abbrev pub BandsOfCards : Type 0
 BandsOfCards = (band kind rate modulation : ℕ) → definedMode band kind rate modulation ≡ (ltb band bandCount && definedMode 0 kind rate modulation)
+
+-- For every band, kind, rate and modulation that `definedMode` takes, other than kind 0, the pad of a block sent once is at most its coded
+-- bits. Paper 01 had a check for this, refusal 9, which is withdrawn.
+abbrev pub PadWithin : Type 0
+PadWithin =
+    (band kind rate modulation : ℕ) → definedMode band kind rate modulation ≡ true → (kind ≡ 0 → ⊥)
+    → layoutOf band modulation (codedBits kind rate) .pad ≤ codedBits kind rate
+
+-- So every card that is good at the payload entries has such a pad.
+abbrev pub CardPadWithin : Type 0
+CardPadWithin = (card : List ℕ) → GoodPayloadCard card → layoutOfCard card .pad ≤ codedBits (cardOf card .kind) (cardOf card .rate)
 
 -- The lengths that a caller makes room for: the items of a frame control by band, and the most items and bytes of a payload.
 abbrev pub Lengths : Type 0

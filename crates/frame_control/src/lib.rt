@@ -44,7 +44,7 @@ fn send_on(band: usize, taps: u16, word: &[u8], out: &mut [u8]) -> Answer
     send_by(bands::carriers(band), &offsets[..count], taps, word, out)
 }
 
-// Sends a word: its items at the start of `out`, or refusal 1, 2, 3, 4 or 5.
+// Sends a word: its items at the start of `out`, or refusal 1, 2, 10, 3, 4 or 5.
 pub fn send(card: &[u8], word: &[u8], out: &mut [u8]) -> Answer
     ensures answer { λ r. ⌜ answer r ≡ sendOutcome (now (card .entry)) (now (word .entry)) (now (out .entry)) .report ⌝ }
     ensures items { λ _. ⌜ now (out .exit) ≡ sendOutcome (now (card .entry)) (now (word .entry)) (now (out .entry)) .out ⌝ }
@@ -86,7 +86,7 @@ fn read_on(band: usize, taps: u16, items: &[u8], out: &mut [u8]) -> Answer
     read_by(bands::carriers(band), &offsets[..count], taps, items, out)
 }
 
-// Reads a word: its bytes at the start of `out`, or refusal 1 to 8.
+// Reads a word: its bytes at the start of `out`, or refusal 1, 2, 10 or 3 to 8.
 pub fn read(card: &[u8], items: &[u8], out: &mut [u8]) -> Answer
     ensures answer { λ r. ⌜ answer r ≡ readOutcome (now (card .entry)) (now (items .entry)) (now (out .entry)) .report ⌝ }
     ensures word { λ _. ⌜ now (out .exit) ≡ readOutcome (now (card .entry)) (now (items .entry)) (now (out .entry)) .out ⌝ }

@@ -1,6 +1,6 @@
 -- What the entries come to, case by case: by what the gate says of the card, and then by each row behind it. Assumes nothing.
 use mathlib.Core.Path.{_≡_, refl, sym, ap, _∙_}
-use mathlib.Core.Bool.{true, not}
+use mathlib.Core.Bool.{not}
 use mathlib.Core.List.{List, _++_}
 use Prim.Native.Nat.{ℕ, _*_, _≤_, _<_}
 use native.Mathlib.Omega.{arith}
@@ -10,7 +10,7 @@ use Rattle.bits.specs.Bits.{bytesOf}
 use Rattle.bits.specs.Lists.{firstAbove}
 use Rattle.bits.proofs.BitLaws.{Binary}
 use Rattle.refusal.specs.declared.Refusal.{Refusal}
-use Rattle.refusal.specs.declared.Refusal.the-variants.{Pad, Length, Room, Item}
+use Rattle.refusal.specs.declared.Refusal.the-variants.{Length, Room, Item}
 use Rattle.refusal.specs.Report.{done, refusal}
 use Rattle.refusal.specs.Outcome.{Outcome}
 use Rattle.refusal.proofs.OutcomeLaws.{done-same, outcome-done, outcome-good, none-outcome, refused-alike}
@@ -28,7 +28,7 @@ use Rattle.recovery.specs.Recovery.{dataBit, firstUndecided, recoverRows, recov
 use Rattle.recovery.proofs.RecoveryLaws.{all-decided}
 use Rattle.payload_layout.specs.declared.Layout.{Layout}
 use Rattle.payload_layout.specs.Layouts.{items}
-use Rattle.payload.specs.Entries.{blockLayout, padRow, sendRows, itemsMade, sendBy, send, decidedBit, blockMade, itemRows, readRows, decidedBlock, readBy, read}
+use Rattle.payload.specs.Entries.{blockLayout, sendRows, itemsMade, sendBy, send, decidedBit, blockMade, itemRows, readRows, decidedBlock, readBy, read}
 
 -- ---- by what the gate says of the card
 
@@ -59,62 +59,49 @@ module _ (c : Card) where
   abbrev L : Layout
   L = blockLayout c
 
-  pad-applies : L .coded < L .pad → padRow L .applies ≡ true
-  pad-applies h = lt-ltb (L .coded) (L .pad) h
-
   -- sending
 
   module _ (block out : List ℕ) where
-    pub send-pad : L .coded < L .pad → sendBy c block out ≡ record { report = refusal (Pad (L .pad)); out = out }
+    pub send-length : (length block ≡ blockBytes (c .kind) → ⊥) → sendBy c block out ≡ record { report = refusal (Length (length block)); out = out }
     unfolding sendBy
-    send-pad h = simp (pad-applies h)
+    send-length h = simp (ne-eqb (length block) (blockBytes (c .kind)) h)
 
-    module _ (within : L .pad ≤ L .coded) where
-      pub send-length : (length block ≡ blockBytes (c .kind) → ⊥) → sendBy c block out ≡ record { report = refusal (Length (length block)); out = out }
+    module _ (long : length block ≡ blockBytes (c .kind)) where
+      pub send-room : length out < items L → sendBy c block out ≡ record { report = refusal (Room (items L)); out = out }
       unfolding sendBy
-      send-length h = simp (le-ltb (L .coded) (L .pad) within, ne-eqb (length block) (blockBytes (c .kind)) h)
+      send-room h = simp (eq-eqb (length block) (blockBytes (c .kind)) long, lt-ltb (length out) (items L) h)
 
-      module _ (long : length block ≡ blockBytes (c .kind)) where
-        pub send-room : length out < items L → sendBy c block out ≡ record { report = refusal (Room (items L)); out = out }
-        unfolding sendBy
-        send-room h = simp (le-ltb (L .coded) (L .pad) within, eq-eqb (length block) (blockBytes (c .kind)) long, lt-ltb (length out) (items L) h)
-
-        pub send-done : items L ≤ length out → sendBy c block out ≡ record { report = done (items L); out = itemsMade c block out }
-        unfolding sendBy
-        send-done h = simp (le-ltb (L .coded) (L .pad) within, eq-eqb (length block) (blockBytes (c .kind)) long, le-ltb (length out) (items L) h)
+      pub send-done : items L ≤ length out → sendBy c block out ≡ record { report = done (items L); out = itemsMade c block out }
+      unfolding sendBy
+      send-done h = simp (eq-eqb (length block) (blockBytes (c .kind)) long, le-ltb (length out) (items L) h)
 
   -- reading
 
   module _ (received out : List ℕ) where
-    pub read-pad : L .coded < L .pad → readBy c received out ≡ record { report = refusal (Pad (L .pad)); out = out }
+    pub read-length : (length received ≡ items L → ⊥) → readBy c received out ≡ record { report = refusal (Length (length received)); out = out }
     unfolding readBy
-    read-pad h = simp (pad-applies h)
+    read-length h = simp (ne-eqb (length received) (items L) h)
 
-    module _ (within : L .pad ≤ L .coded) where
-      pub read-length : (length received ≡ items L → ⊥) → readBy c received out ≡ record { report = refusal (Length (length received)); out = out }
+    module _ (long : length received ≡ items L) where
+      pub read-room : length out < blockBytes (c .kind) → readBy c received out ≡ record { report = refusal (Room (blockBytes (c .kind))); out = out }
       unfolding readBy
-      read-length h = simp (le-ltb (L .coded) (L .pad) within, ne-eqb (length received) (items L) h)
+      read-room h = simp (eq-eqb (length received) (items L) long, lt-ltb (length out) (blockBytes (c .kind)) h)
 
-      module _ (long : length received ≡ items L) where
-        pub read-room : length out < blockBytes (c .kind) → readBy c received out ≡ record { report = refusal (Room (blockBytes (c .kind))); out = out }
+      module _ (room : blockBytes (c .kind) ≤ length out) where
+        pub read-item : firstAbove 2 received < length received
+            → readBy c received out ≡ record { report = refusal (Item (firstAbove 2 received)); out = out }
         unfolding readBy
-        read-room h = simp (le-ltb (L .coded) (L .pad) within, eq-eqb (length received) (items L) long, lt-ltb (length out) (blockBytes (c .kind)) h)
+        read-item h =
+            simp (eq-eqb (length received) (items L) long, le-ltb (length out) (blockBytes (c .kind)) room, lt-ltb (firstAbove 2 received) (length received) h)
 
-        module _ (room : blockBytes (c .kind) ≤ length out) where
-          pub read-item : firstAbove 2 received < length received
-              → readBy c received out ≡ record { report = refusal (Item (firstAbove 2 received)); out = out }
-          unfolding readBy
-          read-item h =
-              simp (le-ltb (L .coded) (L .pad) within, eq-eqb (length received) (items L) long, le-ltb (length out) (blockBytes (c .kind)) room, lt-ltb (firstAbove 2 received) (length received) h)
-
-          -- the items are legal, and the decided bits come to the block or to refusal 7 or 8
-          pub read-decided : length received ≤ firstAbove 2 received → readBy c received out ≡ decidedBlock (c .kind) (c .rate) (c .taps) (decidedBit L received) out
-          unfolding readBy decidedBlock
-          read-decided h =
-              none-outcome {A = ℕ} (itemRows c received out) (recoverRows (c .kind) (c .rate) (c .taps) (decidedBit L received)) out (blockBytes (c .kind)) (blockMade (c .kind) (c .rate) (decidedBit L received) out) (
-                le-ltb (L .coded) (L .pad) within,
-                (ap not (eq-eqb (length received) (items L) long), (le-ltb (length out) (blockBytes (c .kind)) room, (le-ltb (firstAbove 2 received) (length received) h, tt))),
-              )
+        -- the items are legal, and the decided bits come to the block or to refusal 7 or 8
+        pub read-decided : length received ≤ firstAbove 2 received → readBy c received out ≡ decidedBlock (c .kind) (c .rate) (c .taps) (decidedBit L received) out
+        unfolding readBy decidedBlock
+        read-decided h =
+            none-outcome {A = ℕ} (itemRows c received out) (recoverRows (c .kind) (c .rate) (c .taps) (decidedBit L received)) out (blockBytes (c .kind)) (blockMade (c .kind) (c .rate) (decidedBit L received) out) (
+              ap not (eq-eqb (length received) (items L) long),
+              (le-ltb (length out) (blockBytes (c .kind)) room, (le-ltb (firstAbove 2 received) (length received) h, tt)),
+            )
 
 -- ---- from the decided bits: recovery into a buffer, and descrambling from there
 

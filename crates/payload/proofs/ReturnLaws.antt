@@ -33,7 +33,7 @@ use Rattle.payload_layout.specs.Items.{carries, sentOn}
 use Rattle.payload_layout.proofs.ItemLaws.{sent-binary, decided-clean, decided-damaged}
 use Rattle.payload.specs.Entries.{layoutOfCard, sentItem, send, decidedBit, blockMade, decidedBlock, read}
 use Rattle.payload.specs.Words.{GoodCard, Block, made}
-use Rattle.payload.proofs.ModeLaws.{layout-bits, layout-within, layout-served}
+use Rattle.payload.proofs.ModeLaws.{layout-bits, layout-served}
 use Rattle.payload.proofs.EntryLaws.{send-passed, send-done, read-passed, read-decided, block-refused}
 
 -- the coded bits of a block under a card
@@ -52,7 +52,7 @@ module _ (card : List ℕ) (good : GoodCard card) where
       → read card received back ≡ decidedBlock (cardOf card .kind) (cardOf card .rate) (cardOf card .taps) (decidedBit (layoutOfCard card) received) back
   read-good received back damage room =
       read-passed card received back (cardOf card) good
-      ∙ read-decided (cardOf card) received back (layout-within (cardOf card) served) (damage .long) room
+      ∙ read-decided (cardOf card) received back (damage .long) room
       (omega (arith, none-above (items (layoutOfCard card)) received damage))
 
   -- Refusal 8: where each coded bit is decided and parity disagrees, the count is the number of kept parity bits that disagree.
@@ -82,7 +82,7 @@ module _ (card : List ℕ) (good : GoodCard card) where
         }
     send-good out room =
         send-passed card block out (cardOf card) good
-        ∙ send-done (cardOf card) block out (layout-within (cardOf card) served) (is .long) room
+        ∙ send-done (cardOf card) block out (is .long) room
 
     -- what was made, whatever lies beyond
     pub made-is : (out : List ℕ) → items (layoutOfCard card) ≤ length out

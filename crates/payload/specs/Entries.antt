@@ -7,7 +7,7 @@ use lib.Dec.{eqb, ltb}
 use lib.ListN.{length, drop}
 use Rattle.bits.specs.Bits.{bitOf, bytesOf}
 use Rattle.bits.specs.Lists.{written, firstAbove}
-use Rattle.refusal.specs.declared.Refusal.the-variants.{Pad, Length, Room, Item}
+use Rattle.refusal.specs.declared.Refusal.the-variants.{Length, Room, Item}
 use Rattle.refusal.specs.Outcome.{Row, row, Outcome, outcome}
 use Rattle.card.specs.declared.Card.{Card}
 use Rattle.card.specs.Card.{cardOf}
@@ -31,10 +31,6 @@ blockLayout c = layoutOf (c .band) (c .modulation) (codedBits (c .kind) (c .rate
 abbrev pub layoutOfCard : List ℕ → Layout
 layoutOfCard card = blockLayout (cardOf card)
 
--- 9 for a pad that is longer than the coded data
-abbrev pub padRow : Layout → Row
-padRow L = row (ltb (L .coded) (L .pad)) (Pad (L .pad))
-
 -- ---- sending
 
 -- item n of a block on a layout: a copy of the coded bit that it carries, where the block is scrambled before it is coded
@@ -44,8 +40,7 @@ sentItem L kind rate taps block n = sentOn L (codedBit kind rate taps (scrambled
 -- the rows behind the card's
 abbrev pub sendRows : Card → List ℕ → List ℕ → List Row
 sendRows c block out =
-    padRow (blockLayout c)
-    ∷ row (not (eqb (length block) (blockBytes (c .kind)))) (Length (length block))
+    row (not (eqb (length block) (blockBytes (c .kind)))) (Length (length block))
     ∷ row (ltb (length out) (items (blockLayout c))) (Room (items (blockLayout c)))
     ∷ []
 
@@ -75,8 +70,7 @@ blockMade kind rate e out = bytesOf (blockBytes kind) (scrambled (dataBit kind r
 -- the rows behind the card's and before the decisions
 abbrev pub itemRows : Card → List ℕ → List ℕ → List Row
 itemRows c received out =
-    padRow (blockLayout c)
-    ∷ row (not (eqb (length received) (items (blockLayout c)))) (Length (length received))
+    row (not (eqb (length received) (items (blockLayout c)))) (Length (length received))
     ∷ row (ltb (length out) (blockBytes (c .kind))) (Room (blockBytes (c .kind)))
     ∷ row (ltb (firstAbove 2 received) (length received)) (Item (firstAbove 2 received))
     ∷ []

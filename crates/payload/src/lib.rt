@@ -42,16 +42,13 @@ fn send_items(l: Layout, kind: usize, rate: usize, taps: u16, block: &[u8], out:
     payload_layout::lay_out(l, &coded[..count], out);
 }
 
-// Sending behind the card's checks: refusal 9, 4 or 5, or the items.
+// Sending behind the card's checks: refusal 4 or 5, or the items.
 fn send_by(c: Card, block: &[u8], out: &mut [u8]) -> Answer
     requires { ⌜ Served 1 4 c ⌝ }
     ensures answer { λ r. ⌜ answer r ≡ sendBy c (now (block .entry)) (now (out .entry)) .report ⌝ }
     ensures items { λ _. ⌜ now (out .exit) ≡ sendBy c (now (block .entry)) (now (out .entry)) .out ⌝ }
 {
     let l = block_layout(c);
-    if l.coded < l.pad {
-        return Answer::Refused(Refusal::Pad(l.pad));
-    }
     let size = card::block_bytes(c.kind as usize);
     let needed = payload_layout::item_count(l);
     if block.len() != size {
@@ -71,7 +68,7 @@ fn send_by(c: Card, block: &[u8], out: &mut [u8]) -> Answer
     Answer::Done(needed)
 }
 
-// The items of a block at the start of `out`, or refusal 1, 2, 3, 9, 4 or 5.
+// The items of a block at the start of `out`, or refusal 1, 2, 10, 3, 4 or 5.
 pub fn send(card: &[u8], block: &[u8], out: &mut [u8]) -> Answer
     ensures answer { λ r. ⌜ answer r ≡ sendOutcome (now (card .entry)) (now (block .entry)) (now (out .entry)) .report ⌝ }
     ensures items { λ _. ⌜ now (out .exit) ≡ sendOutcome (now (card .entry)) (now (block .entry)) (now (out .entry)) .out ⌝ }
@@ -110,16 +107,13 @@ fn read_items(
     }
 }
 
-// Reading behind the card's checks: refusal 9, 4, 5, 6, 7 or 8, or the block.
+// Reading behind the card's checks: refusal 4, 5, 6, 7 or 8, or the block.
 fn read_by(c: Card, items: &[u8], out: &mut [u8]) -> Answer
     requires { ⌜ Served 1 4 c ⌝ }
     ensures answer { λ r. ⌜ answer r ≡ readBy c (now (items .entry)) (now (out .entry)) .report ⌝ }
     ensures bytes { λ _. ⌜ now (out .exit) ≡ readBy c (now (items .entry)) (now (out .entry)) .out ⌝ }
 {
     let l = block_layout(c);
-    if l.coded < l.pad {
-        return Answer::Refused(Refusal::Pad(l.pad));
-    }
     if items.len() != payload_layout::item_count(l) {
         return Answer::Refused(Refusal::Length(items.len()));
     }
@@ -141,7 +135,7 @@ fn read_by(c: Card, items: &[u8], out: &mut [u8]) -> Answer
     )
 }
 
-// The block of received items at the start of `out`, or any refusal of the table.
+// The block of received items at the start of `out`, or refusal 1, 2, 10 or 3 to 8.
 pub fn read(card: &[u8], items: &[u8], out: &mut [u8]) -> Answer
     ensures answer { λ r. ⌜ answer r ≡ readOutcome (now (card .entry)) (now (items .entry)) (now (out .entry)) .report ⌝ }
     ensures bytes { λ _. ⌜ now (out .exit) ≡ readOutcome (now (card .entry)) (now (items .entry)) (now (out .entry)) .out ⌝ }

@@ -61,7 +61,7 @@ module _ (band modulation : ℕ) (band-lt : band < bandCount) (modulation-lt : m
     pub layout-small : items (layoutOf band modulation coded) < coded + 2048
     layout-small = omega (arith, layout-full, layout-pad, few-bits)
 
-    -- a pad within the coded data, which refusal 9 tests, is all that is left to ask
+    -- a pad within the coded data is all that is left to ask
     pub layout-laid : coded < 32768 → layoutOf band modulation coded .pad ≤ coded → Laid (layoutOf band modulation coded)
     unfolding layoutOf layoutFor
     layout-laid h k =

@@ -8,7 +8,7 @@ use native.Mathlib.Omega.{arith}
 use lib.Dec.{eqb}
 use lib.ListN.{length}
 use Rattle.refusal.specs.declared.Refusal.{Refusal}
-use Rattle.refusal.specs.declared.Refusal.the-variants.{CardLength, Version, VersionLength, Mode, Pad, Length, Room, Item, Majority, Parity, Counts}
+use Rattle.refusal.specs.declared.Refusal.the-variants.{CardLength, Version, VersionLength, Mode, Length, Room, Item, Majority, Parity, Counts}
 use Rattle.refusal.specs.Report.{Report, done, refused, refusal, number}
 use Rattle.refusal.specs.Outcome.{Row, Outcome, firstApplicable, inOrder, rowOrder, reported, outcome}
 
@@ -46,13 +46,12 @@ back (refused n v w) =
     cond (eqb n 1) (CardLength v)
     (cond (eqb n 2) Version
     (cond (eqb n 10) VersionLength
-    (cond (eqb n 9) (Pad v)
     (cond (eqb n 4) (Length v)
     (cond (eqb n 5) (Room v)
     (cond (eqb n 6) (Item v)
     (cond (eqb n 7) (Majority v)
     (cond (eqb n 8) (Parity v)
-    (cond (eqb n 11) Counts Mode)))))))))
+    (cond (eqb n 11) Counts Mode))))))))
     ∷ []
 
 -- a refusal's report is its number with one value, and no other refusal has it
@@ -62,7 +61,6 @@ reported-as A (CardLength n) = (n, refl, refl)
 reported-as A Version = (0, refl, refl)
 reported-as A VersionLength = (0, refl, refl)
 reported-as A Mode = (0, refl, refl)
-reported-as A (Pad n) = (n, refl, refl)
 reported-as A (Length n) = (n, refl, refl)
 reported-as A (Room n) = (n, refl, refl)
 reported-as A (Item n) = (n, refl, refl)

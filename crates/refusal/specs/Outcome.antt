@@ -6,9 +6,9 @@ use lib.Dec.{eqb}
 use Rattle.refusal.specs.declared.Refusal.{Refusal}
 use Rattle.refusal.specs.Report.{Report, done, refusal, number}
 
--- the order in which causes are checked: paper 01's table from top to bottom, with 10 behind 2 and 11 last
+-- the order in which causes are checked: paper 01's table from top to bottom, with 10 behind 2, 11 last, and without 9, which is withdrawn
 abbrev pub rowOrder : List ℕ
-rowOrder = 1 ∷ 2 ∷ 10 ∷ 3 ∷ 9 ∷ 4 ∷ 5 ∷ 6 ∷ 7 ∷ 8 ∷ 11 ∷ []
+rowOrder = 1 ∷ 2 ∷ 10 ∷ 3 ∷ 4 ∷ 5 ∷ 6 ∷ 7 ∷ 8 ∷ 11 ∷ []
 
 -- a cause that an entry checks, and whether it applies
 pub record Row : Type 0 where

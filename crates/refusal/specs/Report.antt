@@ -2,7 +2,7 @@
 use mathlib.Core.List.{List, [], _∷_}
 use Prim.Native.Nat.{ℕ}
 use Rattle.refusal.specs.declared.Refusal.{Refusal}
-use Rattle.refusal.specs.declared.Refusal.the-variants.{CardLength, Version, VersionLength, Mode, Pad, Length, Room, Item, Majority, Parity, Counts}
+use Rattle.refusal.specs.declared.Refusal.the-variants.{CardLength, Version, VersionLength, Mode, Length, Room, Item, Majority, Parity, Counts}
 use Rattle.refusal.specs.declared.Answer.{Answer}
 use Rattle.refusal.specs.declared.Answer.the-variants.{Done, Refused}
 
@@ -17,7 +17,6 @@ refusal (CardLength n) = refused 1 n 0
 refusal Version = refused 2 0 0
 refusal VersionLength = refused 10 0 0
 refusal Mode = refused 3 0 0
-refusal (Pad n) = refused 9 n 0
 refusal (Length n) = refused 4 n 0
 refusal (Room n) = refused 5 n 0
 refusal (Item n) = refused 6 n 0

@@ -7,7 +7,8 @@ ghost use mathlib.Core.List.{_∷_, []};
 ghost use Prim.Native.Nat.{ℕ};
 ghost use Rattle.refusal.specs.Report.{refusal, answer, number, values};
 
-// A case for each number of the table, in its order.
+// A case for each number of the table, in its order. None has 9: it was "pad longer than the coded data", is withdrawn, and is given to
+// nothing else.
 pub enum Refusal {
     // 1: the card is neither 11 nor 12 bytes; its length
     CardLength(usize),
@@ -17,8 +18,6 @@ pub enum Refusal {
     VersionLength,
     // 3: the mode is not defined, or not served by the entry
     Mode,
-    // 9: the pad is longer than the coded data; the pad
-    Pad(usize),
     // 4: an input's length, a place or a sub-carrier is wrong; that number
     Length(usize),
     // 5: the output is shorter than needed; the needed length
@@ -48,7 +47,6 @@ pub fn number_of(r: Refusal) -> u32
         Refusal::Version => 2,
         Refusal::VersionLength => 10,
         Refusal::Mode => 3,
-        Refusal::Pad(_) => 9,
         Refusal::Length(_) => 4,
         Refusal::Room(_) => 5,
         Refusal::Item(_) => 6,
@@ -67,7 +65,6 @@ fn value_of(r: Refusal) -> usize
         Refusal::Version => 0,
         Refusal::VersionLength => 0,
         Refusal::Mode => 0,
-        Refusal::Pad(n) => n,
         Refusal::Length(n) => n,
         Refusal::Room(n) => n,
         Refusal::Item(n) => n,
