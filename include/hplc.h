@@ -33,12 +33,15 @@ extern "C" {
 #endif
 
 /* The version of this interface. hplc_version() gives that of the library: the same number where both belong together. */
-#define HPLC_VERSION_MAJOR 2
+#define HPLC_VERSION_MAJOR 3
 #define HPLC_VERSION_MINOR 0
-#define HPLC_VERSION_PATCH 1
+#define HPLC_VERSION_PATCH 0
 #define HPLC_VERSION (HPLC_VERSION_MAJOR * 10000 + HPLC_VERSION_MINOR * 100 + HPLC_VERSION_PATCH)
 
-/* The numbers, in the order in which their causes are checked, and what comes with each as value[0]. */
+/*
+ * The numbers, in the order in which their causes are checked, and what comes with each as value[0]. 9 was "pad longer than the coded data";
+ * it is withdrawn, since no mode could give it, and is given to nothing else.
+ */
 enum hplc_number {
     /* It is done; the count of elements written, or the number that was asked for. */
     HPLC_DONE = 0,
@@ -50,8 +53,6 @@ enum hplc_number {
     HPLC_REFUSED_VERSION_LENGTH = 10,
     /* The mode is not defined, or not served by this call; 0. */
     HPLC_REFUSED_MODE = 3,
-    /* The pad is longer than the coded data; the pad. No mode that is defined today gives this. */
-    HPLC_REFUSED_PAD = 9,
     /* An input's length, or a place or sub-carrier in a band, is wrong; that number. */
     HPLC_REFUSED_LENGTH = 4,
     /* The output is shorter than needed; the needed length. */
@@ -162,12 +163,12 @@ uint32_t hplc_fc_read(const uint8_t *card, size_t card_len, const uint8_t *items
 
 /*
  * The items of a payload block of 72, 136, 264 or 520 bytes by the card's kind: 1, 2 or 4 items a carrier by its modulation, by
- * symbol, place and bit; at most HPLC_PAYLOAD_ITEMS_MAX. Refusals 1, 2, 10, 3 (a frame-control card too), 9, 4, 5.
+ * symbol, place and bit; at most HPLC_PAYLOAD_ITEMS_MAX. Refusals 1, 2, 10, 3 (a frame-control card too), 4, 5.
  */
 uint32_t hplc_payload_send(const uint8_t *card, size_t card_len, const uint8_t *block, size_t block_len, uint8_t *items,
                            size_t items_len, uint64_t value[2]);
 
-/* The block of a payload from all its received items. Refusals 1, 2, 10, 3 (a frame-control card too), 9, 4, 5, 6, 7, 8. */
+/* The block of a payload from all its received items. Refusals 1, 2, 10, 3 (a frame-control card too), 4, 5, 6, 7, 8. */
 uint32_t hplc_payload_read(const uint8_t *card, size_t card_len, const uint8_t *items, size_t items_len, uint8_t *block,
                            size_t block_len, uint64_t value[2]);
 
