@@ -162,7 +162,7 @@ fn copies_of(byte: u8) -> u64 {
 
 /// "Defined modes": any of the bands; kind 0 to 4; modulation 0 to 2; rate 1 only with kind 4; kind
 /// 0 only with QPSK. A value too large for its bits is never part of a defined mode.
-fn mode_is_defined(band: u64, kind: u64, rate: u64, modulation: u64) -> bool {
+pub(crate) fn mode_is_defined(band: u64, kind: u64, rate: u64, modulation: u64) -> bool {
     band < BANDS.len() as u64
         && kind <= 4
         && rate <= 1

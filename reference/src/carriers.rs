@@ -155,6 +155,9 @@ pub fn decide(balances: &[Balance], bits: &mut [u8]) -> Result<(), usize> {
 #[cfg(test)]
 mod tests {
     use super::*;
+    use crate::card::mode_is_defined;
+    use crate::interleaver::coded_bits;
+    use crate::points::{bits_per_carrier, QAM16};
 
     #[test]
     fn places_and_sub_carriers() {
@@ -214,18 +217,34 @@ mod tests {
         }
     }
 
+    /// Of blocks sent once (02, T-05; D9). Frame control, kind 0, is not padded.
     #[test]
     fn no_defined_mode_has_a_pad_longer_than_its_coded_data() {
-        for band in &BANDS {
-            for bits in [1, 2, 4] {
-                for coded in [1152, 2176, 4224, 8320, 4680] {
-                    let plan = layout(band, bits, coded);
-                    assert!(plan.pad <= coded && plan.pad < band.places * bits);
-                    assert_eq!(plan.items, coded + plan.pad);
-                    assert_eq!(plan.items, plan.symbols * band.places * bits);
-                }
+        let mut met = 0;
+        let mut nearest = Vec::new();
+        // Every value of four bits for each field, more than a card can hold.
+        for fields in 0..1u64 << 16 {
+            let mode = [12, 8, 4, 0].map(|shift| fields >> shift & 15);
+            let [band, kind, rate, modulation] = mode;
+            if kind == 0 || !mode_is_defined(band, kind, rate, modulation) {
+                continue;
+            }
+            met += 1;
+            let band = &BANDS[band as usize];
+            let bits = bits_per_carrier(modulation).unwrap();
+            let coded = coded_bits(kind as u8, rate as u8);
+            let plan = layout(band, bits, coded);
+            assert!(plan.pad <= coded && plan.pad < band.places * bits);
+            assert_eq!(plan.items, coded + plan.pad);
+            assert_eq!(plan.items, plan.symbols * band.places * bits);
+            // As near to its coded bits as 1,112 to 2,176, or nearer: ratios compared crosswise.
+            if plan.pad * 2176 >= 1112 * coded {
+                nearest.push((mode, plan.pad, coded));
             }
         }
+        // On 4 bands kinds 1 to 3 at rate 0 and kind 4 at both rates, each in 3 modulations.
+        assert_eq!(met, 4 * 5 * 3);
+        assert_eq!(nearest, [([0, 2, 0, QAM16], 1112, 2176)]);
     }
 
     #[test]

@@ -1,8 +1,8 @@
 //! The four entries: frame control and payload, each sent and read, from bytes to items and back.
 //!
-//! Refusals go in the row order of 01's table, amended by 02 (T-03): 1, 2, 10, 3, 9, 4, 5, 6, 7, 8
-//! (D9). Cards of both versions are taken. An entry writes its output last, so a refusal leaves it
-//! as it was.
+//! Refusals go in the row order of 01's table, amended by 02 (T-03, T-05):
+//! 1, 2, 10, 3, 4, 5, 6, 7, 8 (D9). Cards of both versions are taken. An entry writes its output
+//! last, so a refusal leaves it as it was.
 
 use crate::card::{self, Card};
 use crate::carriers::{self, Balance, Band, BANDS, FRAME_CONTROL_BITS};
@@ -114,11 +114,11 @@ struct PayloadPlan {
     card: Card,
     bytes: usize,
     coded: usize,
+    /// The coded bits, and a pad of at most as many (D9).
     items: usize,
 }
 
-/// A card as the payload entries take it: one of a frame control is 3, and a pad longer than the
-/// coded data is 9 with the pad. No defined mode reaches 9 (D9).
+/// A card as the payload entries take it: one of a frame control is 3.
 fn payload_plan(card: &[u8]) -> Result<PayloadPlan, Report> {
     let card = card::read(card)?;
     if card.kind == 0 {
@@ -129,9 +129,6 @@ fn payload_plan(card: &[u8]) -> Result<PayloadPlan, Report> {
     };
     let coded = coded_bits(card.kind, card.rate);
     let layout = carriers::layout(&BANDS[usize::from(card.band)], bits_per_carrier, coded);
-    if layout.pad > coded {
-        return Err(Report::refused(number::PAD, layout.pad as u64));
-    }
     let bytes = turbo::SIZES[usize::from(card.kind)].bytes;
     Ok(PayloadPlan {
         card,

@@ -19,15 +19,15 @@ pub mod turbo;
 #[cfg(test)]
 mod tests;
 
-/// The numbers a fitter may see (01, "Numbers a fitter may see"; 02, T-03), in the order in which
-/// they are checked (D9).
+/// The numbers a fitter may see (01, "Numbers a fitter may see"; 02, T-03 and T-05), in the order
+/// in which they are checked (D9). There is a gap at 9: it was "pad longer than the coded data", is
+/// withdrawn, and is given to nothing else.
 pub mod number {
     pub const DONE: u32 = 0;
     pub const CARD_LENGTH: u32 = 1;
     pub const VERSION_SPARE_OR_PADDING: u32 = 2;
     pub const VERSION_AND_LENGTH: u32 = 10;
     pub const MODE: u32 = 3;
-    pub const PAD: u32 = 9;
     pub const INPUT: u32 = 4;
     pub const OUTPUT: u32 = 5;
     pub const ITEM: u32 = 6;

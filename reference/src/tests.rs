@@ -1,5 +1,5 @@
-//! The bench checks P1 to P12 of 01, the narrow bands, the second card and the puncturing of 02
-//! (T-01, T-03, T-04), and the entries in all defined modes.
+//! The numbers, the bench checks P1 to P12 of 01, the narrow bands, the second card and the
+//! puncturing of 02 (T-01, T-03, T-04), and the entries in all defined modes.
 
 use crate::card::{self, Fields, Version};
 use crate::carriers::{self, BANDS};
@@ -121,6 +121,17 @@ fn check_read(mode: Mode, taps: u16, items: &[u8]) -> Report {
         }
     }
     report
+}
+
+#[test]
+fn the_numbers_are_those_of_the_table_in_its_order() {
+    // Taken from the source, so that a number too many shows as well (D9).
+    let constants = include_str!("lib.rs").lines();
+    let numbers: Vec<u32> = constants
+        .filter_map(|line| line.split_once(": u32 = "))
+        .map(|(_, number)| number.trim_end_matches(';').parse().unwrap())
+        .collect();
+    assert_eq!(numbers, [0, 1, 2, 10, 3, 4, 5, 6, 7, 8, 11]);
 }
 
 // The bench checks.
