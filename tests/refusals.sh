@@ -80,6 +80,13 @@ if [ "$(head -n 1 <<< "$rules")" != '0 answer' ] || [ "$(wc -l <<< "$refusals")"
   printf 'docs/RULES.md has no table of refusals\n'
   bad=1
 fi
+# What is withdrawn is in no table.
+withdrawn=$(sed -nE 's/^([0-9]+) was .* It is withdrawn and not reused: .*/\1/p' docs/RULES.md)
+same 'withdrawn in include/hplc.h' "$withdrawn" "$(tr -s '\n* ' ' ' < include/hplc.h | sed -nE 's/.* ([0-9]+) was "[^"]+"; it is withdrawn,.*/\1/p')"
+if [ -z "$withdrawn" ] || grep -qx "$withdrawn" <<< "$numbers"; then
+  printf 'docs/RULES.md withdraws no number, or one of its table: %s\n' "$withdrawn"
+  bad=1
+fi
 same 'docs/CLASS.md' "$refusals" "$(rows docs/CLASS.md '## The numbers at the bench' 3 | tail -n +2)"
 same 'include/hplc.h' "$refusals" "$(header | tail -n +2)"
 same 'the enum Refusal' "$refusals" "$(enum)"

@@ -1,8 +1,8 @@
 #!/usr/bin/env bash
 # The tables of docs/RULES.md are those of the definitions: M, N and S of each size, Table 11, the bands and the symbols' offsets. So
 # is the table of bands in docs/CLASS.md, and what include/hplc.h prints by band: the items, the sub-carriers and the limits. The edges of
-# what slicing loses are the definitions' in docs/RULES.md and include/hplc.h, and so are a card's bits and copy codes in docs/RULES.md and
-# its lengths in include/hplc.h. The requests that docs/RULES.md names are those of docs/changes.
+# what slicing loses are the definitions' in docs/RULES.md and include/hplc.h, and so are a card's bits and copy codes and the pad nearest to
+# its coded bits in docs/RULES.md, and a card's lengths in include/hplc.h. The requests that docs/RULES.md names are those of docs/changes.
 set -u
 cd "$(dirname "$0")/.." || exit 1
 bad=0
@@ -45,6 +45,21 @@ listed() {
   printf '%s and %s\n' "${text%, }" "${!#}"
 }
 
+# nearest SYMBOLS CODED: of symbols of so many bits and so many coded bits, the pad that comes nearest to the coded bits, with them.
+nearest() {
+  local symbol coded spare pad=0 of=1
+  for symbol in $1; do
+    for coded in $2; do
+      spare=$(((symbol - coded % symbol) % symbol))
+      if [ $((spare * of)) -gt $((pad * coded)) ]; then
+        pad=$spare
+        of=$coded
+      fi
+    done
+  done
+  printf '%d of %d\n' "$pad" "$of"
+}
+
 # same NAME A B: two texts that must be equal, and not empty.
 same() {
   if [ -z "$2" ] || [ "$2" != "$3" ]; then
@@ -84,18 +99,28 @@ read -ra most <<< "$(numbers diversity 'bandMost band')"
 bands=
 limits=
 spans=()
+lengths=()
 for band in "${!first[@]}"; do
   carriers=$((last[band] - first[band] + 1))
   items=$((2 * symbols[band] * carriers))
   bands+="| $band | ${first[band]} | ${last[band]} | $carriers | ${symbols[band]} | $items | ${fewest[band]} | ${most[band]} |"$'\n'
   limits+="| $band | ${first[band]} to ${last[band]} | ${symbols[band]} | ${fewest[band]} to ${most[band]} | ${fewest[band]} |"$'\n'
   spans+=("${first[band]} to ${last[band]}")
+  for bits in $(numbers card 'carrierBits modulation'); do
+    lengths+=($((carriers * bits)))
+  done
   same "HPLC_FC_ITEMS_BAND_$band" "$(sed -n "s/^#define HPLC_FC_ITEMS_BAND_$band //p" include/hplc.h)" "$items"
 done
 same 'the bands of docs/RULES.md' "$(bands_of docs/RULES.md)"$'\n' "$bands"
 same 'the bands of docs/CLASS.md' "$(bands_of docs/CLASS.md)"$'\n' "$limits"
 same 'the sub-carriers of include/hplc.h' "$(found include/hplc.h 'Bands 0 to 3 are sub-carriers ([^.]+)\.')" "$(listed "${spans[@]}")"
 same 'the limits of include/hplc.h' "$(found include/hplc.h "below the band's limit, ([^.]+) on bands 0 to 3,")" "$(listed "${fewest[@]}")"
+coded=("$(sed -n 's/^pub coded-high : codedBits 4 1 ≡ //p' crates/interleaver_shape/proofs/ShapeLaws.antt)")
+for bytes in $(numbers card 'blockBytes kind' | cut -d ' ' -f 2-); do
+  coded+=($((16 * bytes)))
+done
+same 'the nearest pad of docs/RULES.md' "$(found docs/RULES.md 'comes nearest to them is ([0-9,]+ of [0-9,]+),' | tr -d ,)" \
+  "$(nearest "${lengths[*]}" "${coded[*]}")"
 offsets=$(found docs/RULES.md 'The offsets are ([0-9, ]+), on band 0 ')
 same "the symbols' offsets" "${offsets//,/}" "$(numbers bands symbolOffsets)"
 power=$(($(number slicing 'erasureFraction = fin false 1 \(negsuc ') + 1))
