@@ -8,8 +8,8 @@ use native.Mathlib.Nat.{add-zero, add-suc, eq-or-lt-of-le, le-of-suc-le-suc, not
 use native.Mathlib.Numerals.{add-one}
 use native.Mathlib.Omega.{arith}
 use lib.Dec.{ltb}
-use lib.ListN.{length, getD, take, drop, set, length-append, length-drop, List·getD-append, drop-of-length-le}
-use lib.Seq.{ext-getD, drop-cons, set-at, getD-at, take-at, drop-at, drop-drop, getD-append-add, getD-drop}
+use lib.ListN.{length, getD, take, drop, set, length-append, length-take, length-drop, List·getD-append, drop-of-length-le}
+use lib.Seq.{ext-getD, drop-cons, set-at, getD-at, take-at, drop-at, drop-drop, getD-append-add, getD-take, getD-drop}
 use borrow.Author.Tests.{lt-ltb, le-ltb, ltb-false}
 use borrow.Rule.Slice.PartAt.{part-to-end}
 use Rattle.bits.specs.Lists.{tabulate, written, lowest, firstAbove}
@@ -168,6 +168,16 @@ module _ {A : Type 0} where
   pub written-list : (n : ℕ) (f : ℕ → A) (xs out : List A) → xs ≡ tabulate n f → xs ++ drop (length xs) out ≡ written n f out
   unfolding written
   written-list n f xs out e = rw (e, length-tabulate)
+
+  -- a part of a list put at the start of a buffer
+  pub written-slice : (d : A) (xs out : List A) (at end from n : ℕ) → at ≡ from → end ≡ at + n → end ≤ length xs
+      → take (end - at) (drop at xs) ++ drop (length (take (end - at) (drop at xs))) out ≡ written n (λ k. getD xs (from + k) d) out
+  written-slice d xs out at end from n f e h =
+      let few : end - at ≡ n = omega arith in
+      rw (few, f)
+      (written-list n _ (take n (drop from xs)) out
+      (tabulate-of n _ d (take n (drop from xs)) (simp (length-take, length-drop) (omega arith))
+      (λ i l. getD-take n (drop from xs) i d l ∙ getD-drop from xs i d)))
 
   -- two elements stored at the start of a buffer
   pub set-two : (a b : A) (xs : List A) → 2 ≤ length xs → set (set xs 0 a) 1 b ≡ a ∷ b ∷ drop 2 xs

@@ -1,15 +1,20 @@
 -- Laws of permutations of the numbers below n. Assumes nothing.
-use mathlib.Core.Path.{_≡_, refl, sym, ap, _∙_}
+use mathlib.Core.Path.{_≡_, refl, sym, ap, ap₂, _∙_}
+use mathlib.Core.Bool.{Bool, cond}
 use Prim.Native.Nat.{ℕ, zero, suc, _+_, _-_, _*_, _/_, _%_, _<_}
-use native.Mathlib.Nat.{not-suc-le-zero, lt-suc-self, mod-lt, mod-eq-of-lt, mod-add-mod, add-mul-mod-self-right, div-add-mod', mul-assoc, mul-add, suc-mul}
+use native.Mathlib.Nat.{not-suc-le-zero, lt-suc-self, mod-lt, mod-eq-of-lt, mod-add-mod, add-mul-mod-self-right, div-add-mod', div-lt-iff-lt-mul, mul-assoc, mul-add, suc-mul}
 use native.Mathlib.Decide.{ℕ-discrete}
 use native.Mathlib.Omega.{arith}
+use lib.Arith.{digits-div, digits-mod, digits-lt}
 use lib.Dec.{eqb}
-use borrow.Author.Tests.{eq-eqb, ne-eqb}
+use borrow.Author.Tests.{eqb-true, eqb-false, eq-eqb, ne-eqb}
 use Rattle.bits.specs.Lists.{lowest}
 use Rattle.bits.specs.Permutations.{Permutes, Once}
+use Rattle.bits.specs.Sums.{sum}
+use Rattle.bits.proofs.BoolLaws.{test-cases}
 use Rattle.bits.proofs.ListLaws.{lowest-here}
 use Rattle.bits.proofs.NumberLaws.{mod-mul-mod}
+use Rattle.bits.proofs.SumLaws.{sum-ext, sum-swap, sum-one}
 
 -- f reaches y from below n
 abbrev pub Meets : ℕ → (ℕ → ℕ) → ℕ → Type 0
@@ -127,7 +132,52 @@ module _ (n : ℕ) (f : ℕ → ℕ) (P : Permutes n f) where
       let z : inverse n f k ≡ i = ap (inverse n f) (sym e) ∙ inverse-after i l in
       rw z l
 
--- ---- two kinds of permutations
+-- ---- sums
+
+at-term : (h : ℕ → ℕ) (a b : ℕ) → _≡_ {A = ℕ} (cond (eqb a b) (h a) 0) (cond (eqb a b) (h b) 0)
+at-term h a b = test-cases (eqb a b) (λ e. ap (λ (x : ℕ). cond (eqb a b) (h x) 0) (eqb-true a b e)) (λ e. rw e)
+
+-- the terms of a sum in another order
+pub sum-permuted : (n : ℕ) (f : ℕ → ℕ) → Permutes n f → (h : ℕ → ℕ) → sum n (λ x. h (f x)) ≡ sum n h
+sum-permuted n f P h =
+    sum-ext n _ _ (λ x l. sym (sum-one n (f x) (h (f x)) (P .below x l)) ∙ sum-ext n _ _ (λ y k. at-term h (f x) y))
+    ∙ sum-swap n n (λ x y. cond (eqb (f x) y) (h y) 0)
+    ∙ sum-ext n _ _
+    (λ y l.
+    sum-ext n _ _ (λ x k. ap (λ (t : Bool). cond t (h y) 0) (turned x y k l)) ∙ sum-one n (inverse n f y) (h y) (inverse-lt n f P y l))
+  where
+    turned : (x y : ℕ) → x < n → y < n → eqb (f x) y ≡ eqb (inverse n f y) x
+    turned x y k l =
+        test-cases (eqb (f x) y)
+        (λ e. e ∙ sym (eq-eqb (inverse n f y) x (ap (inverse n f) (sym (eqb-true (f x) y e)) ∙ inverse-after n f P x k)))
+        (λ e. e ∙ sym (ne-eqb (inverse n f y) x (λ z. eqb-false (f x) y e (ap f (sym z) ∙ after-inverse n f P y l))))
+
+-- ---- kinds of permutations
+
+-- m rows of n: the rows in one order, and each row in an order of its own
+pub rows-permute : (m n : ℕ) (σ : ℕ → ℕ) (τ : ℕ → ℕ → ℕ) → zero < n → Permutes m σ → ((i : ℕ) → i < m → Permutes n (τ i))
+    → Permutes (m * n) (λ x. σ (x / n) * n + τ (x / n) (x % n))
+rows-permute m n σ τ pos P Q = record { below = below; apart = apart }
+  where
+    row : (x : ℕ) → x < m * n → x / n < m
+    row x h = div-lt-iff-lt-mul {k = n} pos .1 h
+
+    in-row : (x : ℕ) → x < m * n → τ (x / n) (x % n) < n
+    in-row x h = Q (x / n) (row x h) .below (x % n) (mod-lt x pos)
+
+    below : (x : ℕ) → x < m * n → σ (x / n) * n + τ (x / n) (x % n) < m * n
+    below x h = digits-lt (P .below (x / n) (row x h)) (in-row x h)
+
+    apart : (x y : ℕ) → x < m * n → y < m * n → σ (x / n) * n + τ (x / n) (x % n) ≡ σ (y / n) * n + τ (y / n) (y % n) → x ≡ y
+    apart x y hx hy e =
+        let rows : σ (x / n) ≡ σ (y / n) =
+        sym (digits-div (σ (x / n)) (in-row x hx)) ∙ ap (λ (k : ℕ). k / n) e ∙ digits-div (σ (y / n)) (in-row y hy) in
+        let row-same : x / n ≡ y / n = P .apart (x / n) (y / n) (row x hx) (row y hy) rows in
+        let places : τ (x / n) (x % n) ≡ τ (y / n) (y % n) =
+        sym (digits-mod (σ (x / n)) (in-row x hx)) ∙ ap (λ (k : ℕ). k % n) e ∙ digits-mod (σ (y / n)) (in-row y hy) in
+        let place-same : x % n ≡ y % n =
+        Q (x / n) (row x hx) .apart (x % n) (y % n) (mod-lt x pos) (mod-lt y pos) (places ∙ ap (λ (i : ℕ). τ i (y % n)) (sym row-same)) in
+        sym (div-add-mod' x n) ∙ ap₂ (λ (a b : ℕ). a * n + b) row-same place-same ∙ div-add-mod' y n
 
 -- moved up by any number, modulo n
 pub moves : (n by : ℕ) → Permutes n (λ x. (x + by) % n)

@@ -45,6 +45,23 @@ unfolding sum
 sum-rows zero n f = rw zero-mul
 sum-rows (suc m) n f = rw suc-mul (omega (arith, sum-rows m n f, sum-append (m * n) n f))
 
+-- a sum of sums, either way round
+pub sum-swap : (m n : ℕ) (f : ℕ → ℕ → ℕ) → sum m (λ i. sum n (λ j. f i j)) ≡ sum n (λ j. sum m (λ i. f i j))
+unfolding sum
+sum-swap zero n f = sym (sum-zero n (λ j. zero) (λ k h. refl))
+sum-swap (suc m) n f = ap (λ (x : ℕ). x + sum n (f m)) (sum-swap m n f) ∙ sym (sum-add n (λ j. sum m (λ i. f i j)) (f m))
+
+-- one term alone
+pub sum-one : (n a v : ℕ) → a < n → sum n (λ k. cond (eqb a k) v 0) ≡ v
+unfolding sum
+sum-one zero a v h = absurd (not-suc-le-zero h)
+sum-one (suc n) a v h = go (eq-or-lt-of-le (le-of-suc-le-suc h)) (sum-one n a v)
+  where
+    go : (a ≡ n) ⊎ (a < n) → (a < n → sum n (λ k. cond (eqb a k) v 0) ≡ v) → sum n (λ k. cond (eqb a k) v 0) + cond (eqb a n) v 0 ≡ v
+    go (inl e) ih =
+        ap₂ _+_ (sum-zero n (λ k. cond (eqb a k) v 0) (λ k l. rw (ne-eqb a k (λ q. absurd (omega arith))))) (rw (eq-eqb a n e)) ∙ zero-add v
+    go (inr l) ih = ap₂ _+_ (ih l) (rw (ne-eqb a n (λ q. absurd (omega arith)))) ∙ add-zero v
+
 -- two at a time
 pub sum-pairs : (n : ℕ) (f : ℕ → ℕ) → sum (2 * n) f ≡ sum n (λ k. f (2 * k) + f (2 * k + 1))
 unfolding sum

@@ -4,10 +4,9 @@ use mathlib.Core.List.{List, _++_}
 use Prim.Native.Nat.{ℕ, _+_, _-_, _*_, _/_, _%_, _≤_, _<_}
 use native.Mathlib.Omega.{arith}
 use lib.Arith.{digits-div, digits-mod}
-use lib.ListN.{getD, length, take, drop, set, length-take, length-drop}
-use lib.Seq.{getD-take, getD-drop}
+use lib.ListN.{getD, length, take, drop, set}
 use Rattle.bits.specs.Lists.{tabulate, written}
-use Rattle.bits.proofs.ListLaws.{getD-tabulate, tabulate-of, written-two, written-part, written-all, written-ext, written-whole, written-list}
+use Rattle.bits.proofs.ListLaws.{getD-tabulate, tabulate-of, written-two, written-part, written-all, written-ext, written-whole}
 use Rattle.diversity.specs.Lanes.{laneBit}
 use Rattle.diversity.specs.Loops.Cycle.{cycleBit, cycleLane}
 
@@ -67,16 +66,6 @@ cycle-filled coded cycle first part long one two =
 -- the lanes from place c on, where lane I carries `bit`, up to the wrap
 pub run-lane : (o c bit j m : ℕ) → bit ≡ (c + o) % 256 → bit + m ≤ 256 → j < 2 * m → 2 * bit + j ≡ (2 * o + (2 * c + j)) % 512
 run-lane o c bit j m e h l = omega arith
-
--- a part of a list put at the start of a buffer
-pub part-put : (xs out : List ℕ) (at end from n : ℕ) → at ≡ from → end ≡ at + n → end ≤ length xs
-    → take (end - at) (drop at xs) ++ drop (length (take (end - at) (drop at xs))) out ≡ written n (λ k. getD xs (from + k) 0) out
-part-put xs out at end from n f e h =
-    let few : end - at ≡ n = omega arith in
-    rw (few, f)
-    (written-list n _ (take n (drop from xs)) out
-    (tabulate-of n _ 0 (take n (drop from xs)) (simp (length-take, length-drop) (omega arith))
-    (λ i l. getD-take n (drop from xs) i 0 l ∙ getD-drop from xs i 0)))
 
 -- the items of symbol s, from n on, go by the lanes of the cycle from twice its offset on, round it
 pub cycle-at : (C : ℕ) (os : List ℕ) (s n j : ℕ) → n ≡ 2 * (s * C) → j < 2 * C → cycleLane C os (n + j) ≡ (2 * getD os s 0 + j) % 512

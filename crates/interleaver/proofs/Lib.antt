@@ -1,7 +1,7 @@
 -- What the proofs of `interleaver` share, and its theorems. Assumes nothing.
 pub mod InterleaverLaws
 pub mod RowLaws
-mod PassLaws
+pub mod PassLaws
 mod SourceLaws
 mod WalkLaws
 mod StreamLaws

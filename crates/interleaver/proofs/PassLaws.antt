@@ -37,13 +37,13 @@ abbrev pub rowAt : ℕ → ℕ → ℕ → ℕ
 rowAt R step p = cond (ltb p (R % step * (R / step + 1))) (longRow R step p) (shortRow R step (p - R % step * (R / step + 1)))
 
 -- pass j by the formula: how many rows it takes, where the next pass starts, and its k-th row
-abbrev Passed : ℕ → ℕ → ℕ → Type 0
+abbrev pub Passed : ℕ → ℕ → ℕ → Type 0
 Passed R s j =
     (c : ℕ) × (passLength R s j ≡ c) × (R ≤ j + c * s) × (passStart R s (suc j) ≡ passStart R s j + c)
     × ((k : ℕ) → k < c → rowAt R s (passStart R s j + k) ≡ j + k * s)
 
 -- place p is the k-th of pass j
-abbrev Found : ℕ → ℕ → ℕ → Type 0
+abbrev pub Found : ℕ → ℕ → ℕ → Type 0
 Found R s p = (j : ℕ) × (k : ℕ) × (j < s) × (j + k * s < R) × (p ≡ passStart R s j + k) × (rowAt R s p ≡ j + k * s)
 
 module _ (R s : ℕ) (pos : zero < s) where
@@ -134,7 +134,7 @@ module _ (R s : ℕ) (pos : zero < s) where
       omega (arith, mul-add (R % s) zero 1)))
 
   -- the pass of a place, and how far in it stands
-  find : (p : ℕ) → p < R → Found R s p
+  pub find : (p : ℕ) → p < R → Found R s p
   find p h = lt-cases p (R % s * (R / s + 1)) long short
     where
       long : p < R % s * (R / s + 1) → Found R s p

@@ -1,72 +1,147 @@
--- Laws of a layout's numbers: the symbols are just as many as hold the coded bits, and the pad is less than a symbol. Assumes nothing.
-use mathlib.Core.Path.{_≡_, refl}
-use Prim.Native.Nat.{ℕ, _+_, _-_, _*_, _≤_, _<_}
-use native.Mathlib.Nat.{div-add-mod', lt-div-mul-add}
+-- What the layouts of bands, modulations and copy counts have: all that the loops ask, where the pads are within the data. Assumes nothing.
+use mathlib.Core.Path.{_≡_, refl, sym, ap, _∙_, subst}
+use mathlib.Core.Bool.{Bool, true, _&&_, _||_}
+use mathlib.Core.Logic.{_⊎_, inl, inr}
+use Prim.Native.Nat.{ℕ, zero, suc, _+_, _-_, _*_, _<_, _≤_}
+use native.Mathlib.Nat.{mul-assoc, mul-comm, mul-right-comm, mul-le-mul, mul-le-mul-left, mul-le-mul-right}
 use native.Mathlib.Omega.{arith}
-use lib.Dec.{leb, leb→le}
-use Rattle.bits.proofs.RangeLaws.{at-each₂, under₂}
+use lib.Dec.{T, eqb, leb, leb→le}
+use borrow.Author.Tests.{ne-eqb}
+use Rattle.bits.specs.Lists.{lowest}
+use Rattle.bits.specs.Ranges.{allBelow}
+use Rattle.bits.proofs.BoolLaws.{and-left, and-right}
+use Rattle.bits.proofs.RangeLaws.{at-each₂, under}
+use Rattle.card.specs.Card.{copyCount, copyCode}
 use Rattle.card.specs.Modes.{carrierBits}
+use Rattle.card.proofs.CopyLaws.{count-back}
 use Rattle.bands.specs.Bands.{bandCount, carriers}
-use Rattle.payload_layout.specs.Layouts.{symbolBits, symbolCount, padBits, layoutFor, layoutOf, items, Laid}
+use Rattle.payload_layout.specs.declared.Layout.{Layout}
+use Rattle.payload_layout.specs.Layouts.{allInterleavers, groupInterleavers, spanOf, shiftStep, layoutBy, layoutFor, layoutOf, symbolItems, items, groupCarriers, usedCarriers, copyCarriers, groupBits, CarrierBits, Sound, Small, Laid}
+use Rattle.payload_layout.proofs.SectionLaws.{copies-le, sound}
 
--- ---- any number of carriers, and of bits a carrier
+pub layout-coded : (band modulation copies coded : ℕ) → layoutOf band modulation copies coded .coded ≡ coded
+unfolding layoutOf layoutFor layoutBy
+layout-coded band modulation copies coded = refl
 
-module _ (C b coded : ℕ) (some : 0 < symbolBits C b) where
-  -- the symbols hold the coded bits, with less than a symbol to spare
-  pub symbols-hold : coded ≤ symbolCount C b coded * symbolBits C b
-  unfolding symbolCount
-  symbols-hold = omega (arith, lt-div-mul-add {a = coded + symbolBits C b - 1} {b = symbolBits C b} some)
+-- ---- by one computed test over bands and copy counts
 
-  pub symbols-tight : symbolCount C b coded * symbolBits C b < coded + symbolBits C b
-  unfolding symbolCount
-  symbols-tight = omega (arith, div-add-mod' (coded + symbolBits C b - 1) (symbolBits C b))
+-- the carriers of a group
+abbrev group : ℕ → ℕ → ℕ
+group band copies = groupInterleavers copies * spanOf (carriers band) copies
 
-  pub pad-less : padBits C b coded < symbolBits C b
-  unfolding padBits
-  pad-less = omega (arith, symbols-tight)
+-- a carrier for each interleaver; a group is no less than a thirteenth of a symbol; the step is small; and of more than one copy a group is
+-- small, and an address has room
+roomTest : ℕ → ℕ → Bool
+roomTest band copies =
+    leb (allInterleavers copies) (carriers band)
+    && (leb (carriers band) (13 * group band copies)
+    && (leb (shiftStep (carriers band) copies) 2 && (eqb copies 1 || (leb (4 * group band copies) 816 && leb (copies * group band copies) 410))))
 
-  -- the coded bits and the pad fill the symbols
-  pub symbols-full : symbolCount C b coded * symbolBits C b ≡ coded + padBits C b coded
-  unfolding padBits
-  symbols-full = omega (arith, symbols-hold)
+rooms : T (allBelow bandCount (λ band. allBelow 6 (λ code. roomTest band (copyCount code))))
+unfolding roomTest carriers copyCode lowest spanOf shiftStep
+rooms = tt
 
--- ---- by band and modulation
+pub bits-of : (modulation : ℕ) → modulation < 3 → CarrierBits (carrierBits modulation)
+bits-of zero h = inl refl
+bits-of (suc zero) h = inr (inl refl)
+bits-of (suc (suc zero)) h = inr (inr refl)
+bits-of (suc (suc (suc m))) h = absurd (omega arith)
 
-pub layout-coded : (band modulation coded : ℕ) → layoutOf band modulation coded .coded ≡ coded
-unfolding layoutOf layoutFor
-layout-coded band modulation coded = refl
+pub bits-least : (b : ℕ) → CarrierBits b → 1 ≤ b
+bits-least b (inl e) = omega arith
+bits-least b (inr (inl e)) = omega arith
+bits-least b (inr (inr e)) = omega arith
 
-module _ (band modulation : ℕ) (band-lt : band < bandCount) (modulation-lt : modulation < 3) where
-  -- a symbol has some bits, and below 2048
-  pub some-bits : 0 < symbolBits (carriers band) (carrierBits modulation)
-  unfolding symbolBits carriers
-  some-bits =
-      leb→le 1 (symbolBits (carriers band) (carrierBits modulation))
-      (at-each₂ bandCount 3 (λ b m. leb 1 (symbolBits (carriers b) (carrierBits m))) tt band modulation band-lt modulation-lt)
+pub bits-most : (b : ℕ) → CarrierBits b → b ≤ 4
+bits-most b (inl e) = omega arith
+bits-most b (inr (inl e)) = omega arith
+bits-most b (inr (inr e)) = omega arith
 
-  pub few-bits : symbolBits (carriers band) (carrierBits modulation) < 2048
-  unfolding symbolBits carriers
-  few-bits = under₂ bandCount 3 2048 (λ b m. symbolBits (carriers b) (carrierBits m)) tt band modulation band-lt modulation-lt
+module _ (band copies : ℕ) (band-lt : band < bandCount) (is : copyCode copies < 6) where
+  room : T (roomTest band copies)
+  room = subst (λ (c : ℕ). T (roomTest band c)) (count-back copies is) (at-each₂ bandCount 6 (λ b code. roomTest b (copyCount code)) rooms band (copyCode copies) band-lt is)
 
-  module _ (coded : ℕ) where
-    -- the layout is full, and its pad is less than a symbol
-    pub layout-full : items (layoutOf band modulation coded) ≡ coded + layoutOf band modulation coded .pad
-    unfolding items layoutOf layoutFor
-    layout-full = symbols-full (carriers band) (carrierBits modulation) coded some-bits
+  behind-first : T (leb (carriers band) (13 * group band copies)
+      && (leb (shiftStep (carriers band) copies) 2 && (eqb copies 1 || (leb (4 * group band copies) 816 && leb (copies * group band copies) 410))))
+  unfolding roomTest
+  behind-first = and-right (leb (allInterleavers copies) (carriers band)) _ room
 
-    pub layout-pad : layoutOf band modulation coded .pad < symbolBits (carriers band) (carrierBits modulation)
-    unfolding layoutOf layoutFor
-    layout-pad = pad-less (carriers band) (carrierBits modulation) coded some-bits
+  pub enough : allInterleavers copies ≤ carriers band
+  unfolding roomTest
+  enough = leb→le (allInterleavers copies) (carriers band) (and-left (leb (allInterleavers copies) (carriers band)) _ room)
 
-    pub layout-small : items (layoutOf band modulation coded) < coded + 2048
-    layout-small = omega (arith, layout-full, layout-pad, few-bits)
+  thirteenth : carriers band ≤ 13 * group band copies
+  thirteenth = leb→le (carriers band) (13 * group band copies) (and-left (leb (carriers band) (13 * group band copies)) _ behind-first)
 
-    -- a pad within the coded data is all that is left to ask
-    pub layout-laid : coded < 32768 → layoutOf band modulation coded .pad ≤ coded → Laid (layoutOf band modulation coded)
-    unfolding layoutOf layoutFor
-    layout-laid h k =
-        record {
-          full = layout-full;
-          within = k;
-          small = omega (arith, layout-small);
-        }
+  behind-second : T (leb (shiftStep (carriers band) copies) 2 && (eqb copies 1 || (leb (4 * group band copies) 816 && leb (copies * group band copies) 410)))
+  behind-second = and-right (leb (carriers band) (13 * group band copies)) _ behind-first
+
+  step-small : shiftStep (carriers band) copies ≤ 2
+  step-small = leb→le (shiftStep (carriers band) copies) 2 (and-left (leb (shiftStep (carriers band) copies) 2) _ behind-second)
+
+  copied-room : 1 < copies → (4 * group band copies ≤ 816) × (copies * group band copies ≤ 410)
+  copied-room more =
+      let t = rw (ne-eqb copies 1 (λ e. omega arith)) at (and-right (leb (shiftStep (carriers band) copies) 2) _ behind-second) in (
+        leb→le (4 * group band copies) 816 (and-left (leb (4 * group band copies) 816) _ t),
+        leb→le (copies * group band copies) 410 (and-right (leb (4 * group band copies) 816) _ t),
+      )
+
+-- a band's carriers are few
+pub carriers-le : (band : ℕ) → band < bandCount → carriers band ≤ 411
+unfolding carriers
+carriers-le band h = omega (arith, under bandCount 412 carriers tt band h)
+
+-- ---- the layout
+
+-- each group of a layout fills a thirteenth of its symbol, so the items are few
+items-few : (L : Layout) → Sound L → L .carriers ≤ 13 * groupCarriers L → items L ≤ 13 * (L .coded + L .pad)
+unfolding items
+items-few L s wide =
+    let step : L .symbols * (L .carriers * L .bits) ≤ L .symbols * (13 * groupCarriers L * L .bits) =
+    mul-le-mul-left (L .symbols) (mul-le-mul-right (L .bits) wide) in
+    let turn : L .symbols * (13 * groupCarriers L * L .bits) ≡ 13 * (copyCarriers L * L .bits) =
+    ap (λ (k : ℕ). L .symbols * k) (mul-assoc 13 (groupCarriers L) (L .bits))
+    ∙ native.Mathlib.Nat.mul-left-comm (L .symbols) 13 (groupCarriers L * L .bits)
+    ∙ ap (λ (k : ℕ). 13 * k) (sym (mul-assoc (L .symbols) (groupCarriers L) (L .bits))) in
+    omega (arith, s .full)
+
+module _ (band modulation copies coded : ℕ) (band-lt : band < bandCount) (modulation-lt : modulation < 3) (is : copyCode copies < 6) (some : 0 < coded) (few : coded < 65536) where
+  abbrev L : Layout
+  L = layoutOf band modulation copies coded
+
+  bits-are : CarrierBits (carrierBits modulation)
+  bits-are = bits-of modulation modulation-lt
+
+  pub layout-sound : Sound L
+  unfolding layoutOf
+  layout-sound = sound (carriers band) copies is (enough band copies band-lt is) (carrierBits modulation) coded (bits-least _ bits-are) some
+
+  pub layout-small : Small L
+  unfolding layoutOf layoutFor layoutBy
+  layout-small =
+      let s = layout-sound in
+      let b = bits-most _ bits-are in
+      let g = group band copies in
+      record {
+        bits-are = bits-are;
+        coded-in = few;
+        items-in = omega (
+          arith,
+          items-few L s (thirteenth band copies band-lt is),
+          s .pad-in,
+          mul-le-mul {n₁ = groupCarriers L} {m₁ = L .bits} {n₂ = 411} {m₂ = 4} (omega (arith, group-below s, carriers-le band band-lt)) b,
+        );
+        copies-in = copies-le copies is;
+        step-in = step-small band copies band-lt is;
+        group-in = λ more. omega (arith, mul-le-mul {n₁ = groupCarriers L} {m₁ = L .bits} {n₂ = groupCarriers L} {m₂ = 4} (omega arith) b, mul-comm g 4, copied-room band copies band-lt is more .0);
+        used-in = λ more. copied-room band copies band-lt is more .1;
+      }
+    where
+      group-below : Sound L → groupCarriers L ≤ L .carriers
+      group-below s =
+          omega (arith, s .there, native.Mathlib.Nat.le-mul-of-pos-right {m = L .copies} (groupCarriers L) (s .copies-pos), mul-comm (groupCarriers L) (L .copies))
+
+  -- pads within the data are all that is left to ask
+  pub layout-laid : L .copies * L .pad ≤ coded → Laid L
+  unfolding layoutOf layoutFor layoutBy
+  layout-laid h = record { sound = layout-sound; small = layout-small; within = h }

@@ -1,5 +1,8 @@
 -- What the proofs of `payload_layout` share, and its theorems. Assumes nothing.
+pub mod OrderLaws
+pub mod CountLaws
+pub mod SectionLaws
+pub mod PlainLaws
 pub mod LayoutLaws
 pub mod ItemLaws
-mod RunLaws
-mod DecisionLaws
+mod NumberLaws

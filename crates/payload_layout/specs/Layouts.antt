@@ -1,42 +1,153 @@
--- The numbers of a payload's layout (paper 01, Carriers). Assumes nothing.
+-- The numbers of a payload's layout: paper 01's for one copy, and those of 5.1.5.5.2 to 5.1.5.5.5 of source 000, whose names stand in
+-- the comments. Assumes nothing.
+use mathlib.Core.Bool.{cond}
+use mathlib.Core.List.{[], _∷_}
+use mathlib.Core.Logic.{_⊎_}
 use mathlib.Core.Path.{_≡_}
-use Prim.Native.Nat.{ℕ, _+_, _-_, _*_, _/_, _<_, _≤_}
+use Prim.Native.Nat.{ℕ, zero, _+_, _-_, _*_, _/_, _%_, _<_, _≤_}
+use lib.Dec.{eqb, ltb, leb}
+use lib.ListN.{getD}
+use Rattle.card.specs.Card.{copyCode}
 use Rattle.card.specs.Modes.{carrierBits}
 use Rattle.bands.specs.Bands.{carriers}
 use Rattle.payload_layout.specs.declared.Layout.{Layout}
 
--- the bits of a symbol that has so many carriers, with so many bits a carrier
-unfoldable pub symbolBits : ℕ → ℕ → ℕ
-symbolBits carriers bits = carriers * bits
+-- ---- Table 13, by CopyNum, with a column for one copy
 
--- the least number of symbols that holds the coded bits: the quotient, rounded up
-unfoldable pub symbolCount : ℕ → ℕ → ℕ → ℕ
-symbolCount carriers bits coded = (coded + symbolBits carriers bits - 1) / symbolBits carriers bits
+-- InterNum: the address interleavers of all copies
+abbrev pub allInterleavers : ℕ → ℕ
+allInterleavers copies = getD (1 ∷ 8 ∷ 8 ∷ 10 ∷ 14 ∷ 11 ∷ []) (copyCode copies) 0
 
--- the pad: the bits of the symbols beyond the coded ones
+-- InterNumPerGroup: those of a group
+abbrev pub groupInterleavers : ℕ → ℕ
+groupInterleavers copies = getD (1 ∷ 4 ∷ 2 ∷ 2 ∷ 2 ∷ 1 ∷ []) (copyCode copies) 0
+
+-- ---- 5.1.5.5.3, of so many carriers (ValidCarrierNum) and copies (CopyNum)
+
+-- CarrierNumPerInter: the carriers of an interleaver, its span
+unfoldable pub spanOf : ℕ → ℕ → ℕ
+spanOf carriers copies = carriers / allInterleavers copies
+
+-- UsedCarrierNum
+unfoldable pub usedOf : ℕ → ℕ → ℕ
+usedOf carriers copies = allInterleavers copies * spanOf carriers copies
+
+-- CarrierNumPerGroup
+unfoldable pub groupOf : ℕ → ℕ → ℕ
+groupOf carriers copies = usedOf carriers copies / copies
+
+-- BitsInLastOFDM, where a symbol has O bits (BitsPerOFDM)
+unfoldable pub lastSymbolBits : ℕ → ℕ → ℕ
+lastSymbolBits O coded = cond (eqb (coded % O) 0) O (coded % O)
+
+-- BitsInLastGroup, where a group has G bits (BitsPerGroup)
+unfoldable pub lastGroupBits : ℕ → ℕ → ℕ → ℕ
+lastGroupBits O G coded = cond (eqb (coded % O) 0) G (coded % O - G * ((coded % O - 1) / G))
+
+-- PadBitsNum
 unfoldable pub padBits : ℕ → ℕ → ℕ → ℕ
-padBits carriers bits coded = symbolCount carriers bits coded * symbolBits carriers bits - coded
+padBits O G coded = G - lastGroupBits O G coded
 
--- the layout of so many coded bits
-unfoldable pub layoutFor : ℕ → ℕ → ℕ → Layout
-layoutFor carriers bits coded =
-    record { carriers = carriers; bits = bits; symbols = symbolCount carriers bits coded; coded = coded; pad = padBits carriers bits coded }
+-- ---- 5.1.5.5.4: GroupShiftNum of copy k is k / shiftRun, since a run of copies has one shift: all of them, two and two, or each its own
 
--- the layout of a band and a modulation
-unfoldable pub layoutOf : ℕ → ℕ → ℕ → Layout
-layoutOf band modulation coded = layoutFor (carriers band) (carrierBits modulation) coded
+unfoldable pub shiftRun : ℕ → ℕ → ℕ → ℕ
+shiftRun copies last G =
+    cond (eqb copies 4)
+    (cond (leb last G) 4 (cond (leb last (2 * G)) 2 (cond (leb last (3 * G)) 4 1)))
+    (cond (leb last ((copies - 1) * G)) copies 1)
 
--- the items of a layout: the bits of all its symbols
+-- ---- 5.1.5.5.5: InterShiftStep; one copy is not interleaved
+
+abbrev pub roundedDown : ℕ → ℕ
+roundedDown s = cond (ltb s 1) 0 (cond (ltb s 2) 1 (cond (ltb s 4) 2 (cond (ltb s 8) 4 (cond (ltb s 16) 8 s))))
+
+unfoldable pub shiftStep : ℕ → ℕ → ℕ
+shiftStep carriers copies = cond (eqb copies 1) 0 (roundedDown (spanOf carriers copies / (2 * allInterleavers copies)))
+
+-- ---- the layout
+
+-- of so many coded bits, where a symbol's used carriers have O bits and a group G. A copy has as many groups as there are symbols, since
+-- each symbol has room for a group of each copy.
+unfoldable pub layoutBy : ℕ → ℕ → ℕ → ℕ → ℕ → ℕ → Layout
+layoutBy carriers bits copies coded O G =
+    record {
+      carriers = carriers;
+      bits = bits;
+      symbols = (coded + padBits O G coded) / G;
+      coded = coded;
+      pad = padBits O G coded;
+      copies = copies;
+      run = shiftRun copies (lastSymbolBits O coded) G;
+      interleavers = groupInterleavers copies;
+      span = spanOf carriers copies;
+      step = shiftStep carriers copies;
+    }
+
+-- of carriers, bits a carrier (BPC), copies and coded bits (DataBitsLen)
+unfoldable pub layoutFor : ℕ → ℕ → ℕ → ℕ → Layout
+layoutFor carriers bits copies coded = layoutBy carriers bits copies coded (bits * usedOf carriers copies) (bits * groupOf carriers copies)
+
+-- of a band and a modulation
+unfoldable pub layoutOf : ℕ → ℕ → ℕ → ℕ → Layout
+layoutOf band modulation copies coded = layoutFor (carriers band) (carrierBits modulation) copies coded
+
+-- ---- what a layout has
+
+-- the items of a symbol, and of all: those on unused carriers too
+abbrev pub symbolItems : Layout → ℕ
+symbolItems L = L .carriers * L .bits
+
 unfoldable pub items : Layout → ℕ
-items L = L .symbols * symbolBits (L .carriers) (L .bits)
+items L = L .symbols * symbolItems L
 
--- the most items that a payload has: those of 520 bytes at rate 1/2 as 16QAM on band 0
+-- the most items of a payload: 520 bytes at rate 1/2 as 16QAM on band 3, eleven times
 abbrev pub mostItems : ℕ
-mostItems = 9864
+mostItems = 101920
 
--- the layouts that the payload's loops take: the coded bits and the pad fill the symbols, the pad is within the coded data, and the numbers
--- are small
+-- the carriers of a group, the used carriers of a symbol, and the carriers of a whole copy
+abbrev pub groupCarriers : Layout → ℕ
+groupCarriers L = L .interleavers * L .span
+
+abbrev pub usedCarriers : Layout → ℕ
+usedCarriers L = L .copies * groupCarriers L
+
+abbrev pub copyCarriers : Layout → ℕ
+copyCarriers L = L .symbols * groupCarriers L
+
+-- the bits of a group
+abbrev pub groupBits : Layout → ℕ
+groupBits L = groupCarriers L * L .bits
+
+-- A sound layout: its groups fill the copies with the coded bits and the pad, and the used carriers are there.
+pub record Sound (L : Layout) : Type 0 where
+  pub bits-pos : zero < L .bits
+  pub copies-pos : zero < L .copies
+  pub run-pos : zero < L .run
+  pub symbols-pos : zero < L .symbols
+  pub interleavers-pos : zero < L .interleavers
+  pub span-pos : zero < L .span
+  pub there : usedCarriers L ≤ L .carriers
+  pub full : copyCarriers L * L .bits ≡ L .coded + L .pad
+  pub pad-in : L .pad ≤ groupBits L
+  -- one copy uses every carrier, in order
+  pub one-copy : L .copies ≡ 1 → (L .interleavers ≡ 1) × (L .span ≡ L .carriers) × (L .step ≡ 0)
+
+-- the bits a carrier of BPSK, QPSK or 16QAM
+abbrev pub CarrierBits : ℕ → Type 0
+CarrierBits b = (b ≡ 1) ⊎ (b ≡ 2) ⊎ (b ≡ 4)
+
+-- A small one: what its numbers stay below. Of more than one copy a group has few bits, and the interleavers few carriers.
+pub record Small (L : Layout) : Type 0 where
+  pub bits-are : CarrierBits (L .bits)
+  pub coded-in : L .coded < 65536
+  pub items-in : items L < 1048576
+  pub copies-in : L .copies ≤ 11
+  pub step-in : L .step ≤ 2
+  pub group-in : 1 < L .copies → groupBits L ≤ 816
+  pub used-in : 1 < L .copies → usedCarriers L ≤ 410
+
+-- the layouts that the payload's loops take: the pads of all copies are within the coded data
 pub record Laid (L : Layout) : Type 0 where
-  pub full : items L ≡ L .coded + L .pad
-  pub within : L .pad ≤ L .coded
-  pub small : items L < 65536
+  pub sound : Sound L
+  pub small : Small L
+  pub within : L .copies * L .pad ≤ L .coded

@@ -1,15 +1,16 @@
-// A payload's layout: which coded bit each item carries, the items that go out, and the bits that received items decide.
+// A payload's layout: the numbers by which its coded bits stand on the carriers, copied as often as a card says.
 //
 // Internal: nothing here is a public entry, and callers show what a function requires.
 ghost use mathlib.Core.Path.{_≡_};
 ghost use Prim.Native.Nat.{_<_, _≤_};
-ghost use lib.ListN.{length, getD};
-ghost use Rattle.bits.specs.Lists.{written};
+ghost use Rattle.card.specs.Card.{copyCode};
 ghost use Rattle.bands.specs.Bands.{bandCount};
-ghost use Rattle.votes.specs.Votes.{decided};
-ghost use Rattle.payload_layout.specs.Layouts.{layoutOf, items as itemsOf, Laid};
-ghost use Rattle.payload_layout.specs.Items.{carries, sentOn};
-ghost use Rattle.payload_layout.specs.Loops.Copies.{ofOne, ofTwo};
+ghost use Rattle.payload_layout.specs.Layouts.{allInterleavers, lastSymbolBits, lastGroupBits, shiftRun, roundedDown, layoutFor, layoutOf, items as itemsOf, Laid};
+
+// Table 13 of source 000, by copy code, with a column for one copy: the interleavers of all copies, and of a group.
+const ALL_INTERLEAVERS: [usize; 6] = [1, 8, 8, 10, 14, 11];
+
+const GROUP_INTERLEAVERS: [usize; 6] = [1, 4, 2, 2, 2, 1];
 
 // The numbers of a payload's layout.
 pub struct Layout {
@@ -17,27 +18,140 @@ pub struct Layout {
     pub carriers: usize,
     pub bits: usize,
     pub symbols: usize,
-    // coded bits, and the copies of coded bits that fill the last symbol
+    // coded bits, and the coded bits that fill up a copy's last group
     pub coded: usize,
     pub pad: usize,
+    // copies, and how many of them in a row have one shift of their groups
+    pub copies: usize,
+    pub run: usize,
+    // interleavers of a group, carriers of an interleaver, and the step of its addresses
+    pub interleavers: usize,
+    pub span: usize,
+    pub step: usize,
 }
 
-// The layout of a band and a modulation for so many coded bits.
-pub fn layout_of(band: usize, modulation: usize, coded: usize) -> Layout
-    requires { ⌜ (band < bandCount) × (modulation < 3) × (coded < 65536) ⌝ }
-    ensures { λ r. ⌜ r ≡ layoutOf band modulation coded ⌝ }
+// The coded bits in the last symbol, where each has `symbol` of them.
+fn last_symbol_bits(symbol: usize, coded: usize) -> usize
+    requires { ⌜ 0 < symbol ⌝ }
+    ensures { λ r. ⌜ r ≡ lastSymbolBits symbol coded ⌝ }
 {
-    let carriers = bands::carriers(band);
-    let bits = card::carrier_bits(modulation);
-    let run = carriers * bits;
-    let symbols = (coded + run - 1) / run;
+    let rest = coded % symbol;
+    if rest == 0 { symbol } else { rest }
+}
+
+// The coded bits in the last group, where each has `group` of them.
+fn last_group_bits(symbol: usize, group: usize, coded: usize) -> usize
+    requires { ⌜ (0 < symbol) × (0 < group) ⌝ }
+    ensures { λ r. ⌜ (r ≡ lastGroupBits symbol group coded) × (r ≤ group) ⌝ }
+{
+    let rest = coded % symbol;
+    if rest == 0 {
+        group
+    } else {
+        rest - group * ((rest - 1) / group)
+    }
+}
+
+// How many copies in a row have one shift, with so many bits in the last symbol.
+fn shift_run(copies: usize, last: usize, group: usize) -> usize
+    requires { ⌜ (0 < copies) × (copies ≤ 11) × (group < 65536) ⌝ }
+    ensures { λ r. ⌜ r ≡ shiftRun copies last group ⌝ }
+{
+    if copies != 4 {
+        return if last <= (copies - 1) * group {
+            copies
+        } else {
+            1
+        };
+    }
+    if last <= group {
+        return 4;
+    }
+    if last <= 2 * group {
+        return 2;
+    }
+    if last <= 3 * group { 4 } else { 1 }
+}
+
+// The step of addresses: rounded down to a power of two.
+fn rounded_down(s: usize) -> usize
+    ensures { λ r. ⌜ r ≡ roundedDown s ⌝ }
+{
+    if s < 1 {
+        return 0;
+    }
+    if s < 2 {
+        return 1;
+    }
+    if s < 4 {
+        return 2;
+    }
+    if s < 8 {
+        return 4;
+    }
+    if s < 16 { 8 } else { s }
+}
+
+// One copy: the coded bits in order, and the last symbol filled. One division where the section's arithmetic takes several.
+fn one_copy(carriers: usize, bits: usize, coded: usize) -> Layout
+    requires { ⌜ (0 < carriers) × (carriers ≤ 411) × (0 < bits) × (bits ≤ 4) × (0 < coded) × (coded < 65536) ⌝ }
+    ensures { λ r. ⌜ r ≡ layoutFor carriers bits 1 coded ⌝ }
+{
+    let symbol = bits * carriers;
+    let symbols = (coded + symbol - 1) / symbol;
     Layout {
         carriers,
         bits,
         symbols,
         coded,
-        pad: symbols * run - coded,
+        pad: symbols * symbol - coded,
+        copies: 1,
+        run: 1,
+        interleavers: 1,
+        span: carriers,
+        step: 0,
     }
+}
+
+// More copies, by the section's arithmetic.
+fn copied(carriers: usize, bits: usize, copies: usize, coded: usize) -> Layout
+    requires { ⌜ (carriers ≤ 411) × (0 < bits) × (bits ≤ 4) × (0 < coded) × (coded < 65536) ⌝ }
+    requires { ⌜ (copyCode copies < 6) × (1 < copies) × (allInterleavers copies ≤ carriers) ⌝ }
+    ensures { λ r. ⌜ r ≡ layoutFor carriers bits copies coded ⌝ }
+{
+    let code = card::copy_code(copies as u64) as usize;
+    let all = ALL_INTERLEAVERS[code];
+    let span = carriers / all;
+    let used = all * span;
+    let symbol = bits * used;
+    let group = bits * (used / copies);
+    let pad = group - last_group_bits(symbol, group, coded);
+    let run = shift_run(copies, last_symbol_bits(symbol, coded), group);
+    Layout {
+        carriers,
+        bits,
+        symbols: (coded + pad) / group,
+        coded,
+        pad,
+        copies,
+        run,
+        interleavers: GROUP_INTERLEAVERS[code],
+        span,
+        step: rounded_down(span / (2 * all)),
+    }
+}
+
+// The layout of a band and a modulation for so many copies of the coded bits.
+pub fn layout_of(band: usize, modulation: usize, copies: usize, coded: usize) -> Layout
+    requires { ⌜ (band < bandCount) × (modulation < 3) × (copyCode copies < 6) × (0 < coded) × (coded < 65536) ⌝ }
+    ensures { λ r. ⌜ r ≡ layoutOf band modulation copies coded ⌝ }
+{
+    let carriers = bands::carriers(band);
+    let bits = card::carrier_bits(modulation);
+    if copies == 1 {
+        return one_copy(carriers, bits, coded);
+    }
+    copied(carriers, bits, copies, coded)
 }
 
 // The items of a layout.
@@ -45,77 +159,5 @@ pub fn item_count(l: Layout) -> usize
     requires { ⌜ Laid l ⌝ }
     ensures { λ r. ⌜ r ≡ itemsOf l ⌝ }
 {
-    l.coded + l.pad
-}
-
-// The items of the coded bits, at the start of `out`: the coded bits in order, and then those from 0 on that fill the last symbol.
-pub fn lay_out(l: Layout, coded: &[u8], out: &mut [u8])
-    requires { ⌜ (Laid l) × (length (now coded) ≡ l .coded) × (itemsOf l ≤ length (now out)) ⌝ }
-    ensures { λ _. ⌜ now (out .exit) ≡ written (itemsOf l) (sentOn l (λ b. getD (now (coded .entry)) b 0)) (now (out .entry)) ⌝ }
-{
-    let first = l.coded;
-    let pad = l.pad;
-    bits::put(coded, out);
-    bits::put(&coded[..pad], &mut out[first..]);
-}
-
-// ---- decisions
-
-// What a bit's only copy decides.
-fn of_one(item: u8) -> u8
-    ensures { λ r. ⌜ r ≡ ofOne item ⌝ }
-{
-    if item < 2 { item } else { 2 }
-}
-
-// What a bit's two copies decide. By sums and not by cases, which the loop below runs faster.
-fn of_two(a: u8, b: u8) -> u8
-    ensures { λ r. ⌜ r ≡ ofTwo a b ⌝ }
-{
-    let zeros = votes::same(a, 0) + votes::same(b, 0);
-    let ones = votes::same(a, 1) + votes::same(b, 1);
-    if ones < zeros {
-        return 0;
-    }
-    if zeros < ones {
-        return 1;
-    }
-    2
-}
-
-// What items that are the only copies of the bits in order decide, at the start of `out`.
-fn decide_ones(items: &[u8], out: &mut [u8])
-    requires { ⌜ length (now items) ≤ length (now out) ⌝ }
-    ensures { λ _. ⌜ now (out .exit) ≡ written (length (now (items .entry)))
-        (λ b. ofOne (getD (now (items .entry)) b 0)) (now (out .entry)) ⌝ }
-{
-    let mut b: usize = 0;
-    while b < items.len() {
-        out[b] = of_one(items[b]);
-        b += 1;
-    }
-}
-
-// What items and their second copies in the pad decide, at the start of `out`.
-fn decide_twos(items: &[u8], pad: &[u8], out: &mut [u8])
-    requires { ⌜ (length (now pad) ≤ length (now items)) × (length (now pad) ≤ length (now out)) ⌝ }
-    ensures { λ _. ⌜ now (out .exit) ≡ written (length (now (pad .entry)))
-        (λ b. ofTwo (getD (now (items .entry)) b 0) (getD (now (pad .entry)) b 0)) (now (out .entry)) ⌝ }
-{
-    let mut b: usize = 0;
-    while b < pad.len() {
-        out[b] = of_two(items[b], pad[b]);
-        b += 1;
-    }
-}
-
-// Each coded bit by strict majority of its copies, at the start of `out`: 0, 1, or 2 where there is none. The items before the pad carry
-// the bits in order, and so do those of the pad, so a bit has one copy or two.
-pub fn decide(l: Layout, items: &[u8], out: &mut [u8])
-    requires { ⌜ (Laid l) × (length (now items) ≡ itemsOf l) × (l .coded ≤ length (now out)) ⌝ }
-    ensures { λ _. ⌜ now (out .exit) ≡ written (l .coded) (decided (itemsOf l) (carries l) (now (items .entry))) (now (out .entry)) ⌝ }
-{
-    let first = l.coded;
-    decide_ones(&items[..first], out);
-    decide_twos(items, &items[first..], out);
+    l.symbols * (l.carriers * l.bits)
 }

@@ -4,8 +4,8 @@ use Prim.Native.Nat.{ℕ, _+_, _-_, _*_, _%_, _≤_}
 use native.Mathlib.Omega.{arith}
 use lib.ListN.{length, getD}
 use Rattle.bits.specs.Lists.{written}
-use Rattle.bits.proofs.ListLaws.{written-none, written-all, written-part}
-use Rattle.diversity.proofs.CycleLaws.{run-lane, part-put}
+use Rattle.bits.proofs.ListLaws.{written-none, written-all, written-part, written-slice}
+use Rattle.diversity.proofs.CycleLaws.{run-lane}
 use borrow.Author.Needs.{needs}
 use Rattle.diversity.proofs.copy_symbol.Statement.{statement}
 use Rattle.diversity.proofs.copy_symbol.Tie as tie
@@ -82,7 +82,7 @@ loop-again c =
           (written-part (2 * at .c) (2 * m) _ (λ k. getD (args .cycle .now) (2 * bit + k) 0) _ _ _ (at .inv .2)
           (λ j l. ap (λ (k : ℕ). getD (args .cycle .now) k 0)
           (run-lane (args .offset) (at .c) bit j m (run .before .lane-i .ensures) (run .run-length .ensures .2) l))
-          (put .put .ensures ∙ part-put (args .cycle .now) _ (2 * bit) (2 * bit + 2 * m) (2 * bit) (2 * m) refl refl (omega arith)))
+          (put .put .ensures ∙ written-slice 0 (args .cycle .now) _ (2 * bit) (2 * bit + 2 * m) (2 * bit) (2 * m) refl refl (omega arith)))
           (omega arith),
     )
 

@@ -1,0 +1,159 @@
+-- `payload_copying::lay_slot` meets its contract. Assumes nothing.
+use mathlib.Core.Path.{_≡_, refl, ap}
+use Prim.Native.Nat.{ℕ, _+_, _-_, _*_}
+use native.Mathlib.Omega.{arith}
+use lib.ListN.{take, drop, length, length-take, length-drop}
+use borrow.Author.Needs.{needs}
+use Rattle.payload_layout.specs.Layouts.{groupCarriers}
+use Rattle.payload_layout.specs.Layouts.{groupBits}
+use Rattle.payload_copying.proofs.SlottedLaws.{group-few, carriers-few, group-within, order-within, pad-within, group-from, group-last}
+use Rattle.payload_copying.proofs.SlotLaws.{orderOf, order-long, order-in, slot-laid, source-data, source-last}
+use Rattle.payload_copying.proofs.lay_slot.Statement.{statement}
+use Rattle.payload_copying.proofs.lay_slot.Tie as tie
+
+mul-group : tie.Need-mul-group
+mul-group c = omega (arith, carriers-few _ (c .before .before .before .before .pre .0))
+
+mul-first : tie.Need-mul-first
+mul-first c = let start = c .before .before .before .before in omega (arith, order-within _ (start .pre .0) (start .args .k) (start .pre .1))
+
+add-end : tie.Need-add-end
+add-end c = let start = c .before .before .before .before in omega (arith, order-within _ (start .pre .0) (start .args .k) (start .pre .1))
+
+mul-run : tie.Need-mul-run
+mul-run c = search needs
+
+mul-from : tie.Need-mul-from
+mul-from c = let start = c .before .before .before .before .before in omega (arith, group-within _ (start .pre .0) (start .args .g) (start .pre .2), start .pre .0 .laid .small .coded-in, start .pre .0 .laid .sound .pad-in, group-few _ (start .pre .0))
+
+add-if1 : tie.Need-add-if1
+add-if1 c = let start = c .before .before .before .before .before in omega (arith, group-within _ (start .pre .0) (start .args .g) (start .pre .2), start .pre .0 .laid .small .coded-in, start .pre .0 .laid .sound .pad-in, group-few _ (start .pre .0))
+
+mul-gather : tie.Need-mul-gather
+mul-gather c = let start = c .before .before .before .before .before .before in omega (arith, order-within _ (start .pre .0) (start .args .k) (start .pre .1))
+
+sub-gather : tie.Need-sub-gather
+sub-gather c = search needs
+
+part-gather-start : tie.Need-part-gather-start
+part-gather-start c = search needs
+
+part-gather-end : tie.Need-part-gather-end
+part-gather-end c = let start = c .before .before .before .before .before .before in omega (arith, order-within _ (start .pre .0) (start .args .k) (start .pre .1), start .pre .3 .long)
+
+sub-gather-2 : tie.Need-sub-gather-2
+sub-gather-2 c = search needs
+
+part-gather-start-2 : tie.Need-part-gather-start-2
+part-gather-start-2 c = search needs
+
+part-gather-end-2 : tie.Need-part-gather-end-2
+part-gather-end-2 c = search needs
+
+gather-requires : tie.Need-gather-requires
+gather-requires c κs =
+    let start = c .before .before .before .before .before .before .before .before .before in
+    let L = start .args .l in
+    let s = start .pre .0 in
+    let k = start .args .k in
+    let t = start .args .table .now in
+    let long : length (orderOf (k * groupCarriers L) (k * groupCarriers L + groupCarriers L) t) ≡ groupCarriers L = order-long L s k (start .pre .1) t (start .pre .3) _ _ refl refl in (
+      (s .laid .small .bits-are, omega (arith, long, carriers-few L s), omega (arith, ap (λ (x : ℕ). x * L .bits) long, start .pre .5)),
+      order-in L s k (start .pre .1) t (start .pre .3) _ _ refl refl (take (length (start .args .coded .now) - start .args .g * groupBits L) (drop (start .args .g * groupBits L) (start .args .coded .now))) (simp (length-take, length-drop) (omega (arith, c .before .before .before .if1 .taken))),
+    )
+
+same-length : tie.Need-same-length
+same-length c = search needs
+
+returns : tie.Need-returns
+returns c =
+    let start = c .before .before .before .before .before .before .before .before .before .before .before .before in
+    let L = start .args .l in
+    slot-laid L (start .pre .0) (start .args .k) (start .pre .1) (start .args .table .now) (start .pre .3) _ _ refl refl (start .args .g) (start .args .coded .now) _ _ _
+    (source-data L (start .pre .0) (start .args .k) (start .args .g) _ (start .args .coded .now) refl (c .before .before .before .before .before .before .if1 .taken) (start .pre .4))
+    (c .before .before .gather .ensures)
+
+mul-last-group : tie.Need-mul-last-group
+mul-last-group c = let start = c .before .before .before .before .before .before in omega (arith, pad-within _ (start .pre .0) (start .args .k) (start .pre .1), start .pre .0 .laid .small .coded-in)
+
+last-group-requires : tie.Need-last-group-requires
+last-group-requires c κs =
+    let start = c .before .before .before .before .before .before in
+    let s = start .pre .0 in
+    let g = start .args .g in (
+      omega (arith, group-from _ s g (start .pre .2), start .pre .4),
+      omega (arith, pad-within _ s (start .args .k) (start .pre .1), start .pre .4),
+      omega (arith, s .laid .small .coded-in, start .pre .4),
+      omega (arith, group-last _ s g (start .pre .2) (omega (arith, start .pre .4, c .if1 .left)), group-few _ s, start .pre .4),
+    )
+
+mul-gather-2 : tie.Need-mul-gather-2
+mul-gather-2 c = let start = c .before .before .before .before .before .before .before in omega (arith, order-within _ (start .pre .0) (start .args .k) (start .pre .1))
+
+sub-gather-3 : tie.Need-sub-gather-3
+sub-gather-3 c = search needs
+
+part-gather-start-3 : tie.Need-part-gather-start-3
+part-gather-start-3 c = search needs
+
+part-gather-end-3 : tie.Need-part-gather-end-3
+part-gather-end-3 c = let start = c .before .before .before .before .before .before .before in omega (arith, order-within _ (start .pre .0) (start .args .k) (start .pre .1), start .pre .3 .long)
+
+slice-aggregate-gather : tie.Need-slice-aggregate-gather
+slice-aggregate-gather c = search needs
+
+gather-requires-2 : tie.Need-gather-requires-2
+gather-requires-2 c κs =
+    let start = c .before .before .before .before .before .before .before .before .before .before in
+    let L = start .args .l in
+    let s = start .pre .0 in
+    let k = start .args .k in
+    let t = start .args .table .now in
+    let long : length (orderOf (k * groupCarriers L) (k * groupCarriers L + groupCarriers L) t) ≡ groupCarriers L = order-long L s k (start .pre .1) t (start .pre .3) _ _ refl refl in (
+      (s .laid .small .bits-are, omega (arith, long, carriers-few L s), omega (arith, ap (λ (x : ℕ). x * L .bits) long, start .pre .5)),
+      order-in L s k (start .pre .1) t (start .pre .3) _ _ refl refl (c .before .before .before .last-group .result) (omega (arith, group-few _ s, c .before .before .before .last-group .ensures .0)),
+    )
+
+same-length-2 : tie.Need-same-length-2
+same-length-2 c = search needs
+
+returns-2 : tie.Need-returns-2
+returns-2 c =
+    let start = c .before .before .before .before .before .before .before .before .before .before .before .before .before in
+    let L = start .args .l in
+    let last = c .before .before .before .before .before .before in
+    slot-laid L (start .pre .0) (start .args .k) (start .pre .1) (start .args .table .now) (start .pre .3) _ _ refl refl (start .args .g) (start .args .coded .now) (last .last-group .result) _ _
+    (source-last L (start .pre .0) (start .args .k) (start .args .g) (start .args .g * groupBits L) (start .args .k * L .pad) (start .args .coded .now) (last .last-group .result) (start .pre .2) refl refl
+    (omega (arith, last .before .if1 .left, start .pre .4)) (start .pre .4) (last .last-group .ensures .1))
+    (c .before .before .gather2 .ensures)
+
+pub lay-slot-spec : {M : Type 1} → statement M
+lay-slot-spec =
+    tie.close
+    (tie.spec
+    mul-group
+    mul-first
+    add-end
+    mul-run
+    mul-from
+    add-if1
+    mul-gather
+    sub-gather
+    part-gather-start
+    part-gather-end
+    sub-gather-2
+    part-gather-start-2
+    part-gather-end-2
+    gather-requires
+    same-length
+    returns
+    mul-last-group
+    last-group-requires
+    mul-gather-2
+    sub-gather-3
+    part-gather-start-3
+    part-gather-end-3
+    slice-aggregate-gather
+    gather-requires-2
+    same-length-2
+    returns-2)

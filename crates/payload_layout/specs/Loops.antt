@@ -1,2 +1,0 @@
--- What only the contracts of loops cite. Assumes nothing.
-pub mod Copies
