@@ -95,6 +95,13 @@ own-items N on items other b same = ap₂ majority (side 0) (side 1)
     side : (v : ℕ) → count N (λ n. on n b && eqb (getD items n 0) v) ≡ count N (λ n. on n b && eqb (getD other n 0) v)
     side v = count-ext N _ _ (λ n h. at (on n b) (getD items n 0) (getD other n 0) v (same n h))
 
+-- votes of the same items, carried alike
+pub votes-ext : (n : ℕ) (on on′ : ℕ → ℕ → Bool) (items items′ : List ℕ) (b v : ℕ) → ((j : ℕ) → j < n → on j b ≡ on′ j b)
+    → ((j : ℕ) → j < n → getD items j 0 ≡ getD items′ j 0) → votes n on items b v ≡ votes n on′ items′ b v
+unfolding votes
+votes-ext n on on′ items items′ b v same alike =
+    count-ext n _ _ (λ j h. ap₂ (λ (c : Bool) (x : ℕ). c && eqb x v) (same j h) (alike j h))
+
 -- the votes of the first n items, and of the m after them
 pub votes-append : (n m : ℕ) (on part : ℕ → ℕ → Bool) (items : List ℕ) (b v : ℕ) → ((j : ℕ) → j < m → part j b ≡ on (n + j) b)
     → votes (n + m) on items b v ≡ votes n on items b v + votes m part (drop n items) b v
