@@ -8,45 +8,26 @@ ghost use Prim.Native.Nat.{_+_, _*_, _/_, _%_, _<_, _≤_};
 ghost use lib.ListN.{length, getD, replicate};
 ghost use Rattle.bits.specs.Lists.{tabulate, written};
 ghost use Rattle.votes.specs.Votes.{carries, majority as majorityOf, decided};
+ghost use Rattle.votes.specs.Loops.Counters.{middle, Adds};
 ghost use Rattle.diversity.specs.Lanes.{laneBit, itemCount};
 ghost use Rattle.diversity.specs.Loops.Cycle.{cycleLane};
-ghost use Rattle.combining.specs.Loops.Counters.{middle, afterItem, Adds, pairSum, bitSum};
+ghost use Rattle.combining.specs.Loops.Counters.{pairSum, bitSum};
 
 // Where a counter starts. There is one for each lane of the cycle, and a bit has two.
 const MIDDLE: u8 = 128;
 
 const TWO_MIDDLES: u16 = 256;
 
-// A counter after one item: up for a one, down for a zero, modulo 256 on purpose: a counter has few votes in all, in any order.
-fn voted(counter: u8, item: u8) -> u8
-    ensures { λ r. ⌜ r ≡ afterItem counter item ⌝ }
-{
-    let up = std::num::wrapping_add_u8(counter, votes::same(item, 1));
-    std::num::wrapping_add_u8(up, 255 * votes::same(item, 0))
-}
-
-// The votes of `count` items from item n on, which go by lanes of the cycle in a row, from lane `at` on.
-fn count_run(n: usize, at: usize, count: usize, items: &[u8], counters: &mut [u8])
-    requires { ⌜ (n + count ≤ length (now items)) × (at + count ≤ 512) × (length (now counters) ≡ 512) ⌝ }
-    ensures { λ _. ⌜ Adds n count (λ j. at + j) (now (items .entry)) (now (counters .entry)) (now (counters .exit)) ⌝ }
-{
-    let mut i: usize = 0;
-    while i < count {
-        counters[at + i] = voted(counters[at + i], items[n + i]);
-        i += 1;
-    }
-}
-
 // The votes of one symbol's items, from item n on, run by run.
 fn count_symbol(carriers: usize, offset: u8, n: usize, items: &[u8], counters: &mut [u8])
     requires { ⌜ (n + 2 * carriers ≤ length (now items)) × (length (now counters) ≡ 512) ⌝ }
-    ensures { λ _. ⌜ Adds n (2 * carriers) (λ j. (2 * offset + j) % 512) (now (items .entry)) (now (counters .entry)) (now (counters .exit)) ⌝ }
+    ensures { λ _. ⌜ Adds 512 n (2 * carriers) (carries (λ j. (2 * offset + j) % 512)) (now (items .entry)) (now (counters .entry)) (now (counters .exit)) ⌝ }
 {
     let mut c: usize = 0;
     while c < carriers {
         let bit = diversity::lane_i(Place(c), offset) as usize;
         let run = diversity::run_length(carriers, c, bit);
-        count_run(n + 2 * c, 2 * bit, 2 * run, items, counters);
+        votes::count_run(n + 2 * c, 2 * bit, 2 * run, items, counters);
         c += run;
     }
 }
@@ -54,7 +35,7 @@ fn count_symbol(carriers: usize, offset: u8, n: usize, items: &[u8], counters: &
 // The votes of all items, symbol by symbol.
 fn count_symbols(carriers: usize, offsets: &[u8], items: &[u8], counters: &mut [u8])
     requires { ⌜ (carriers ≤ 512) × (itemCount carriers (now offsets) ≤ length (now items)) × (length (now counters) ≡ 512) ⌝ }
-    ensures { λ _. ⌜ Adds 0 (itemCount carriers (now (offsets .entry))) (cycleLane carriers (now (offsets .entry))) (now (items .entry)) (now (counters .entry)) (now (counters .exit)) ⌝ }
+    ensures { λ _. ⌜ Adds 512 0 (itemCount carriers (now (offsets .entry))) (carries (cycleLane carriers (now (offsets .entry)))) (now (items .entry)) (now (counters .entry)) (now (counters .exit)) ⌝ }
 {
     let mut n: usize = 0;
     let mut s: usize = 0;

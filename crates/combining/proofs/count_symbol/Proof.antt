@@ -3,22 +3,23 @@ use mathlib.Core.Path.{_≡_}
 use Prim.Native.Nat.{_+_, _-_, _*_, _%_, _≤_}
 use native.Mathlib.Omega.{arith}
 use lib.ListN.{length}
+use Rattle.votes.specs.Votes.{carries}
+use Rattle.votes.specs.Loops.Counters.{Adds}
+use Rattle.votes.proofs.CounterLaws.{adds-none, adds-more, adds-all, carries-same}
 use Rattle.diversity.proofs.CycleLaws.{run-lane}
-use Rattle.combining.specs.Loops.Counters.{Adds}
-use Rattle.combining.proofs.CounterLaws.{adds-none, adds-more, adds-all}
 use borrow.Author.Needs.{needs}
 use Rattle.combining.proofs.count_symbol.Statement.{statement}
 use Rattle.combining.proofs.count_symbol.Tie as tie
 
 abbrev Inv-loop : tie.InvT-loop
 Inv-loop carriers offset n items counters₀ c₀ counters c =
-    (c ≤ carriers) × (length counters ≡ 512) × (Adds n (2 * c) (λ j. (2 * offset + j) % 512) items counters₀ counters)
+    (c ≤ carriers) × (length counters ≡ 512) × (Adds 512 n (2 * c) (carries (λ j. (2 * offset + j) % 512)) items counters₀ counters)
 
 abbrev μ-loop : tie.MeasureT-loop
 μ-loop carriers offset n items counters₀ c₀ counters c = carriers - c
 
 loop-holds : tie.Need-loop-holds Inv-loop μ-loop
-loop-holds c = (search needs, search needs, adds-none _ _ _ _)
+loop-holds c = (search needs, search needs, adds-none _ _ _ _ _)
 
 lane-i-requires : tie.Need-lane-i-requires Inv-loop μ-loop
 lane-i-requires c κs = search needs
@@ -60,9 +61,9 @@ loop-again c =
     let m = run .run-length .result in (
       search needs,
       omega arith,
-      adds-all _ _ _ _ _ _ _
-          (adds-more _ _ _ _ (2 * at .c) (2 * m) (λ j. 2 * bit + j) _ _ (at .inv .2) (counted .count-run .ensures)
-          (λ j l. run-lane (args .offset) (at .c) bit j m (run .before .lane-i .ensures) (run .run-length .ensures .2) l))
+      adds-all _ _ _ _ _ _ _ _
+          (adds-more _ _ _ _ _ (2 * at .c) (2 * m) (carries (λ j. 2 * bit + j)) _ _ (at .inv .2) (rw (at .inv .1) at (counted .count-run .ensures))
+          (λ j q l. carries-same _ _ j (2 * at .c + j) (run-lane (args .offset) (at .c) bit j m (run .before .lane-i .ensures) (run .run-length .ensures .2) l) q))
           (omega arith),
     )
 
@@ -70,7 +71,7 @@ same-length : tie.Need-same-length Inv-loop μ-loop
 same-length c = search needs
 
 returns : tie.Need-returns Inv-loop μ-loop
-returns c = adds-all _ _ _ _ _ _ _ (c .before .loop .inv .2) (omega arith)
+returns c = adds-all _ _ _ _ _ _ _ _ (c .before .loop .inv .2) (omega arith)
 
 pub count-symbol-spec : {M : Type 1} → statement M
 count-symbol-spec =

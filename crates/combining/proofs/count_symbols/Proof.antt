@@ -5,11 +5,12 @@ use native.Mathlib.Nat.{zero-add}
 use native.Mathlib.Omega.{arith}
 use lib.ListN.{length}
 use Rattle.bits.proofs.NumberLaws.{row-next}
+use Rattle.votes.specs.Votes.{carries}
+use Rattle.votes.specs.Loops.Counters.{Adds}
+use Rattle.votes.proofs.CounterLaws.{adds-none, adds-more, adds-all, carries-same}
 use Rattle.diversity.specs.Loops.Cycle.{cycleLane}
 use Rattle.diversity.proofs.LaneLaws.{symbol-within, symbols-all}
 use Rattle.diversity.proofs.CycleLaws.{cycle-at}
-use Rattle.combining.specs.Loops.Counters.{Adds}
-use Rattle.combining.proofs.CounterLaws.{adds-none, adds-more, adds-all}
 use borrow.Author.Needs.{needs}
 use Rattle.combining.proofs.count_symbols.Statement.{statement}
 use Rattle.combining.proofs.count_symbols.Tie as tie
@@ -17,7 +18,7 @@ use Rattle.combining.proofs.count_symbols.Tie as tie
 abbrev Inv-loop : tie.InvT-loop
 Inv-loop carriers offsets items counters₀ n₀ s₀ counters n s =
     (s ≤ length offsets) × (n ≡ 2 * (s * carriers)) × (length counters ≡ 512)
-    × (Adds 0 n (cycleLane carriers offsets) items counters₀ counters)
+    × (Adds 512 0 n (carries (cycleLane carriers offsets)) items counters₀ counters)
 
 abbrev μ-loop : tie.MeasureT-loop
 μ-loop carriers offsets items counters₀ n₀ s₀ counters n s = length offsets - s
@@ -31,7 +32,7 @@ fits c =
     omega (arith, symbol-within (args .carriers) (args .offsets .now) (c .before .loop .s) (c .before .loop .n) (c .before .loop .inv .1) (c .loop-test .taken))
 
 loop-holds : tie.Need-loop-holds Inv-loop μ-loop
-loop-holds c = (search needs, omega arith, search needs, adds-none _ _ _ _)
+loop-holds c = (search needs, omega arith, search needs, adds-none _ _ _ _ _)
 
 shared-slice-read-count-symbol : tie.Need-shared-slice-read-count-symbol Inv-loop μ-loop
 shared-slice-read-count-symbol c = search needs
@@ -60,16 +61,16 @@ loop-again c =
       search needs,
       omega (arith, row-next (at .s) (args .carriers)),
       omega arith,
-      adds-more _ _ _ _ (at .n) (2 * args .carriers) _ _ _ (at .inv .3)
+      adds-more _ _ _ _ _ (at .n) (2 * args .carriers) _ _ _ (at .inv .3)
           (rw (← zero-add (at .n)) at (counted .count-symbol .ensures))
-          (λ j l. sym (cycle-at (args .carriers) (args .offsets .now) (at .s) (at .n) j (at .inv .1) l)),
+          (λ j q l. carries-same _ _ j (at .n + j) (sym (cycle-at (args .carriers) (args .offsets .now) (at .s) (at .n) j (at .inv .1) l)) q),
     )
 
 same-length : tie.Need-same-length Inv-loop μ-loop
 same-length c = search needs
 
 returns : tie.Need-returns Inv-loop μ-loop
-returns c = adds-all _ _ _ _ _ _ _ (c .before .loop .inv .3) (symbols-all _ _ _ _ (c .before .loop .inv .1) (omega arith))
+returns c = adds-all _ _ _ _ _ _ _ _ (c .before .loop .inv .3) (symbols-all _ _ _ _ (c .before .loop .inv .1) (omega arith))
 
 pub count-symbols-spec : {M : Type 1} → statement M
 count-symbols-spec =

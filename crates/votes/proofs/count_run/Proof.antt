@@ -53,7 +53,7 @@ loop-again c =
       search needs,
       simp length-set (at .inv .1),
       adds-more _ _ _ _ _ (at .i) 1 (carries (λ j. args .at + at .i)) _ _ (at .inv .2)
-          (adds-item _ (args .n + at .i) (args .at + at .i) (c .voted .result) (args .items .now) _ (c .voted .ensures))
+          (adds-item _ (args .n + at .i) (args .at + at .i) _ (args .items .now) (at .counters) (c .voted .ensures))
           (λ j q l. carries-same _ _ j (at .i + j) (omega arith) q),
     )
 
