@@ -142,6 +142,16 @@ count-zero (suc n) t e k h = go (t n) refl (eq-or-lt-of-le (le-of-suc-le-suc h))
         full : _≡_ {A = ℕ} (cond (t n) 1 0) 1 → ⊥
         full z = omega (arith, z, e)
 
+-- those that pass another test as well are no more
+pub count-and-le : (n : ℕ) (t u : ℕ → Bool) → count n (λ k. t k && u k) ≤ count n t
+unfolding count sum
+count-and-le zero t u = omega arith
+count-and-le (suc n) t u = omega (arith, count-and-le n t u, last (t n) (u n))
+  where
+    last : (a b : Bool) → cond (a && b) 1 0 ≤ cond a 1 0
+    last true b = one-le b
+    last false b = omega arith
+
 -- a test that is false wherever another holds
 pub count-and-none : (n : ℕ) (t u : ℕ → Bool) → ((k : ℕ) → k < n → T (t k) → u k ≡ false) → count n (λ k. t k && u k) ≡ 0
 count-and-none n t u h = count-none n _ (λ k l. at (t k) (u k) (h k l))

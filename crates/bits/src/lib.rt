@@ -97,6 +97,18 @@ pub fn put_number(number: u64, n: usize, out: &mut [u8])
     }
 }
 
+// One value, `count` times, at the start of `out`.
+pub fn fill(count: usize, value: u8, out: &mut [u8])
+    requires { ⌜ count ≤ length (now out) ⌝ }
+    ensures { λ _. ⌜ now (out .exit) ≡ written count (λ _. value) (now (out .entry)) ⌝ }
+{
+    let mut i: usize = 0;
+    while i < count {
+        out[i] = value;
+        i += 1;
+    }
+}
+
 // The exclusive-or of each byte with what stands at its place in `out`.
 pub fn add_bytes(bytes: &[u8], out: &mut [u8])
     requires { ⌜ length (now bytes) ≤ length (now out) ⌝ }

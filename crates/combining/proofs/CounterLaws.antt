@@ -14,9 +14,10 @@ use Rattle.bits.specs.Sums.{sum, count}
 use Rattle.bits.proofs.BoolLaws.{test-cases}
 use Rattle.bits.proofs.NumberLaws.{lt-cases}
 use Rattle.bits.proofs.ListLaws.{getD-tabulate, tabulate-ext, written-whole}
-use Rattle.bits.proofs.SumLaws.{sum-ext, sum-add, sum-within}
+use Rattle.bits.proofs.SumLaws.{sum-ext, sum-add}
 use Rattle.votes.specs.Votes.{carries, copies, votes, majority, decided}
 use Rattle.votes.specs.Loops.Counters.{middle, counted, Adds}
+use Rattle.votes.proofs.VoteLaws.{votes-le}
 use Rattle.votes.proofs.CounterLaws.{alone, counter-from, majority-from}
 use Rattle.diversity.specs.Lanes.{laneBit, itemCount}
 use Rattle.diversity.specs.Copies.{copiesOf}
@@ -64,11 +65,6 @@ unfolding sum
 four-each zero f h = omega arith
 four-each (suc n) f h = omega (arith, four-each n f (λ k l. h k (omega arith)), h n (omega arith))
 
-and-le : (c t : Bool) → 2 * cond (c && t) 1 0 + cond (c && t) 1 0 ≤ 2 * cond c 1 0 + cond c 1 0
-and-le true true = omega arith
-and-le true false = omega arith
-and-le false t = omega arith
-
 -- ---- all items of symbols of C carriers under the offsets os
 
 module _ (C : ℕ) (os items : List ℕ) where
@@ -92,13 +88,11 @@ module _ (C : ℕ) (os items : List ℕ) where
 
   -- and are few: a symbol of at most 512 carriers has at most four copies of a bit
   few-votes : (b v : ℕ) → C ≤ 512 → b < 256 → bitVotes b v ≤ 4 * length os
-  unfolding votes copiesOf copies count copiesBy
+  unfolding copiesOf copiesBy
   few-votes b v small h =
-      let held : ℕ → ℕ = λ n. cond (carries (laneBit C os) n b && eqb (getD items n 0) v) 1 0 in
-      let rode : ℕ → ℕ = λ n. cond (carries (laneBit C os) n b) 1 0 in
       omega (
         arith,
-        sum-within all held held rode rode (λ n l. and-le (carries (laneBit C os) n b) (eqb (getD items n 0) v)),
+        votes-le all (carries (laneBit C os)) items b v,
         copies-formula C os b h,
         four-each (length os) (λ s. placesOf C (getD os s 0) b + placesOf C (getD os s 0 + 128) b) (λ s l. omega arith),
       )

@@ -157,18 +157,6 @@ fn lay_slot(l: Layout, k: usize, g: usize, table: &[u16], coded: &[u8], out: &mu
     gather(l.bits, &table[first..end], &last, out);
 }
 
-// Zeros at the start of `out`.
-fn clear(count: usize, out: &mut [u8])
-    requires { ⌜ count ≤ length (now out) ⌝ }
-    ensures { λ _. ⌜ now (out .exit) ≡ written count (λ _. 0) (now (out .entry)) ⌝ }
-{
-    let mut i: usize = 0;
-    while i < count {
-        out[i] = 0;
-        i += 1;
-    }
-}
-
 // The items of symbol y, whose first slot is s; the answer is the slot after its last.
 fn lay_symbol(l: Layout, y: usize, first: Slot, table: &[u16], coded: &[u8], out: &mut [u8]) -> Slot
     requires { ⌜ (Slotted l) × (y < l .symbols) × (Standing l first) × (slotNo l first ≡ y * l .copies) × (Addresses l (now table)) ⌝ }
@@ -188,7 +176,7 @@ fn lay_symbol(l: Layout, y: usize, first: Slot, table: &[u16], coded: &[u8], out
         n += run;
         j += 1;
     }
-    clear(row - n, &mut out[n..]);
+    bits::fill(row - n, 0, &mut out[n..]);
     s
 }
 

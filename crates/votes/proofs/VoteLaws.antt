@@ -3,7 +3,7 @@
 use mathlib.Core.Path.{_≡_, refl, sym, ap, ap₂, _∙_}
 use mathlib.Core.Bool.{Bool, true, false, cond, _&&_, and-false}
 use mathlib.Core.List.{List}
-use Prim.Native.Nat.{ℕ, zero, suc, _+_, _-_, _*_, _<_}
+use Prim.Native.Nat.{ℕ, zero, suc, _+_, _-_, _*_, _<_, _≤_}
 use native.Mathlib.Omega.{arith}
 use lib.Dec.{T, eqb, ltb}
 use lib.ListN.{getD, drop}
@@ -11,7 +11,7 @@ use lib.Seq.{getD-drop}
 use borrow.Author.Tests.{lt-ltb, le-ltb, eq-eqb, ne-eqb}
 use Rattle.bits.specs.Sums.{count}
 use Rattle.bits.proofs.RangeLaws.{agree₂}
-use Rattle.bits.proofs.SumLaws.{sum-ext, count-ext, count-append, count-three, count-and-none}
+use Rattle.bits.proofs.SumLaws.{sum-ext, count-ext, count-append, count-three, count-and-le, count-and-none}
 use Rattle.votes.specs.Votes.{wrongItem, lostItem, copies, votes, wrongCopies, lostCopies, majority, decided}
 
 -- ---- one item: c says that it carries the bit v, sent as s and received as x
@@ -101,6 +101,11 @@ pub votes-ext : (n : ℕ) (on on′ : ℕ → ℕ → Bool) (items items′ : Li
 unfolding votes
 votes-ext n on on′ items items′ b v same alike =
     count-ext n _ _ (λ j h. ap₂ (λ (c : Bool) (x : ℕ). c && eqb x v) (same j h) (alike j h))
+
+-- a bit has at most as many votes as copies
+pub votes-le : (N : ℕ) (on : ℕ → ℕ → Bool) (items : List ℕ) (b v : ℕ) → votes N on items b v ≤ copies N on b
+unfolding votes copies
+votes-le N on items b v = count-and-le N (λ n. on n b) (λ n. eqb (getD items n 0) v)
 
 -- the votes of the first n items, and of the m after them
 pub votes-append : (n m : ℕ) (on part : ℕ → ℕ → Bool) (items : List ℕ) (b v : ℕ) → ((j : ℕ) → j < m → part j b ≡ on (n + j) b)

@@ -134,20 +134,20 @@ loop-again c =
       at .inv .8,
     )
 
-sub-clear : tie.Need-sub-clear Inv-loop μ-loop
-sub-clear c = omega (arith, filled c)
+sub-fill : tie.Need-sub-fill Inv-loop μ-loop
+sub-fill c = omega (arith, filled c)
 
-sub-clear-2 : tie.Need-sub-clear-2 Inv-loop μ-loop
-sub-clear-2 c = omega (arith, filled c)
+sub-fill-2 : tie.Need-sub-fill-2 Inv-loop μ-loop
+sub-fill-2 c = omega (arith, filled c)
 
-part-clear-start : tie.Need-part-clear-start Inv-loop μ-loop
-part-clear-start c = omega (arith, filled c)
+part-fill-start : tie.Need-part-fill-start Inv-loop μ-loop
+part-fill-start c = omega (arith, filled c)
 
-part-clear-end : tie.Need-part-clear-end Inv-loop μ-loop
-part-clear-end c = search needs
+part-fill-end : tie.Need-part-fill-end Inv-loop μ-loop
+part-fill-end c = search needs
 
-clear-requires : tie.Need-clear-requires Inv-loop μ-loop
-clear-requires c κs = simp (length-take, length-drop) (omega (arith, filled (c .before)))
+fill-requires : tie.Need-fill-requires Inv-loop μ-loop
+fill-requires c κs = simp (length-take, length-drop) (omega (arith, filled (c .before)))
 
 same-length : tie.Need-same-length Inv-loop μ-loop
 same-length c = search needs
@@ -167,7 +167,7 @@ returns c =
       written-all _ _ _ _ _
           (written-part (at .n) (symbolItems L - at .n) (λ i. sentOn L (λ b. getD (start .args .coded .now) b 0) (start .args .y * symbolItems L + i)) (λ _. 0) _ _ _ (at .inv .5)
           (λ i h. cleared L s (λ b. getD (start .args .coded .now) b 0) (start .args .y) (at .n + i) (omega arith) (omega (arith, full)))
-          (rw (at .inv .7) at (c .before .before .clear .ensures)))
+          (rw (at .inv .7) at (c .before .before .fill .ensures)))
           whole,
     )
 
@@ -190,10 +190,10 @@ lay-symbol-spec =
     add-j
     loop-less
     loop-again
-    sub-clear
-    sub-clear-2
-    part-clear-start
-    part-clear-end
-    clear-requires
+    sub-fill
+    sub-fill-2
+    part-fill-start
+    part-fill-end
+    fill-requires
     same-length
     returns)

@@ -1,19 +1,19 @@
--- `payload_copying::clear` meets its contract. Assumes nothing.
+-- `bits::fill` meets its contract. Assumes nothing.
 use mathlib.Core.Path.{_≡_, refl}
 use Prim.Native.Nat.{_-_, _≤_}
 use native.Mathlib.Omega.{arith}
 use lib.ListN.{length, length-set}
 use borrow.Author.Needs.{needs}
 use Rattle.bits.specs.Lists.{written}
 use Rattle.bits.proofs.ListLaws.{written-none, written-next, written-all}
-use Rattle.payload_copying.proofs.clear.Statement.{statement}
-use Rattle.payload_copying.proofs.clear.Tie as tie
+use Rattle.bits.proofs.fill.Statement.{statement}
+use Rattle.bits.proofs.fill.Tie as tie
 
 abbrev Inv-loop : tie.InvT-loop
-Inv-loop count out₀ i₀ out i = (i ≤ count) × (out ≡ written i (λ _. 0) out₀) × (length out ≡ length out₀)
+Inv-loop count value out₀ i₀ out i = (i ≤ count) × (out ≡ written i (λ _. value) out₀) × (length out ≡ length out₀)
 
 abbrev μ-loop : tie.MeasureT-loop
-μ-loop count out₀ i₀ out i = count - i
+μ-loop count value out₀ i₀ out i = count - i
 
 loop-holds : tie.Need-loop-holds Inv-loop μ-loop
 loop-holds c = (search needs, written-none _ _, refl)
@@ -38,8 +38,8 @@ same-length c = search needs
 returns : tie.Need-returns Inv-loop μ-loop
 returns c = written-all _ _ _ _ _ (c .before .loop .inv .1) (omega arith)
 
-pub clear-spec : {M : Type 1} → statement M
-clear-spec =
+pub fill-spec : {M : Type 1} → statement M
+fill-spec =
     tie.close
     (tie.spec
     Inv-loop
