@@ -95,7 +95,8 @@ module _ (first last : ℕ) (card : List ℕ) where
       let (none, (kind, _)) = none-parts (cardRows card) kindRow (reported-done (gateRows first last card) d c e .0) in
       let is = card-sound card none .mode in
       let (low, high) = both (leb first (d .kind)) (leb (d .kind) last) (not-false (within first last d) kind) in
-      let (kinds, bands, modulations) = defined-mode (d .band) (d .kind) (d .rate) (d .modulation) (defined-card d is .0) in
+      let (modes, blocks, copies) = defined-card d is in
+      let (kinds, bands, modulations) = defined-mode (d .band) (d .kind) (d .rate) (d .modulation) modes in
       rw (gate-card c e)
       (record {
         mode = is;
@@ -105,6 +106,8 @@ module _ (first last : ℕ) (card : List ℕ) where
         band-lt = bands;
         modulation-lt = modulations;
         taps-lt = card-taps card;
+        blocks = blocks;
+        copies = copies;
       })
 
   -- ---- the outcome of an entry whose own rows stand behind the card's

@@ -1,15 +1,17 @@
 -- Laws of the defined modes: what the tests of a card say of its fields. Assumes nothing.
-use mathlib.Core.Path.{_≡_, refl}
-use mathlib.Core.Bool.{Bool, true, false, not, _&&_, _||_}
+use mathlib.Core.Path.{_≡_, refl, ap}
+use mathlib.Core.Bool.{Bool, true, false, not, _&&_, _||_, false≢true}
 use mathlib.Core.Logic.{_⊎_, inl, inr}
 use Prim.Native.Nat.{ℕ, _<_}
 use native.Mathlib.Omega.{arith}
-use lib.Dec.{eqb, leb}
-use borrow.Author.Tests.{eqb-true, leb-true}
-use Rattle.bits.proofs.BoolLaws.{both}
+use lib.Dec.{eqb, leb, ltb}
+use borrow.Author.Tests.{eqb-true, eq-eqb, leb-true, ltb-true}
+use Rattle.bits.proofs.BoolLaws.{both, test-cases}
 use Rattle.card.specs.declared.Card.{Card}
-use Rattle.card.specs.Modes.{definedMode, single, defined, Defined}
+use Rattle.card.specs.Card.{copyCode}
+use Rattle.card.specs.Modes.{definedMode, single, definedCounts, defined, Defined}
 use Rattle.card.specs.Entries.{isVersion}
+use Rattle.card.proofs.CopyLaws.{code-back}
 
 -- the defined kinds and rates
 pub defined-half : (kind : ℕ) → kind < 5 → Defined kind 0
@@ -52,10 +54,23 @@ module _ (band kind rate modulation : ℕ) where
 pub single-is : (c : Card) → single c ≡ true → (c .blocks ≡ 1) × (c .copies ≡ 1)
 single-is c e = let (blocks, copies) = both (eqb (c .blocks) 1) (eqb (c .copies) 1) e in (eqb-true (c .blocks) 1 blocks, eqb-true (c .copies) 1 copies)
 
--- a card that is defined has a defined mode, and so far one block and one copy
-pub defined-card : (c : Card) → defined c ≡ true → (definedMode (c .band) (c .kind) (c .rate) (c .modulation) ≡ true) × (single c ≡ true)
-defined-card c e = both (definedMode (c .band) (c .kind) (c .rate) (c .modulation)) (single c) e
+module _ (c : Card) (e : defined c ≡ true) where
+  parts : (definedMode (c .band) (c .kind) (c .rate) (c .modulation) ≡ true) × (definedCounts (c .kind) (c .blocks) (c .copies) ≡ true)
+  parts = both (definedMode (c .band) (c .kind) (c .rate) (c .modulation)) (definedCounts (c .kind) (c .blocks) (c .copies)) e
 
--- of kind 0 it has one block and one copy, for good
-pub kind-0-single : (c : Card) → defined c ≡ true → c .kind ≡ 0 → single c ≡ true
-kind-0-single c e z = defined-card c e .1
+  -- a card that is defined has a defined mode, so far one block, and copies that have a code
+  pub defined-card : (definedMode (c .band) (c .kind) (c .rate) (c .modulation) ≡ true) × (c .blocks ≡ 1) × (copyCode (c .copies) < 6)
+  defined-card = let (blocks, copies) = test-cases (single c) one more in (parts .0, blocks, copies)
+    where
+      one : single c ≡ true → (c .blocks ≡ 1) × (copyCode (c .copies) < 6)
+      one is = let (blocks, copies) = single-is c is in (blocks, omega (arith, ap copyCode copies, code-back 0 (omega arith)))
+
+      more : single c ≡ false → (c .blocks ≡ 1) × (copyCode (c .copies) < 6)
+      more is =
+          let counts = both (not (eqb (c .kind) 0)) (ltb (copyCode (c .copies)) 6 && eqb (c .blocks) 1) (rw is at (parts .1)) .1 in
+          let (copies, blocks) = both (ltb (copyCode (c .copies)) 6) (eqb (c .blocks) 1) counts in
+          (eqb-true (c .blocks) 1 blocks, ltb-true (copyCode (c .copies)) 6 copies)
+
+  -- of kind 0 it has one block and one copy
+  pub kind-0-single : c .kind ≡ 0 → single c ≡ true
+  kind-0-single is = test-cases (single c) (λ one. one) (λ more. absurd (false≢true (rw (more, eq-eqb (c .kind) 0 is) at (parts .1))))

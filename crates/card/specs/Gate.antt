@@ -9,7 +9,7 @@ use Rattle.refusal.specs.Report.{Report}
 use Rattle.refusal.specs.Outcome.{Row, row, reported}
 use Rattle.card.specs.declared.Card.{Card}
 use Rattle.card.specs.Modes.{defined, Defined}
-use Rattle.card.specs.Card.{cardOf}
+use Rattle.card.specs.Card.{copyCode, cardOf}
 use Rattle.card.specs.Entries.{cardRows}
 
 -- whether a card's kind is one from `first` to `last`: 0 to 0 at a frame-control entry, 1 to 4 at a payload entry
@@ -33,3 +33,5 @@ pub record Served (first last : ℕ) (c : Card) : Type 0 where
   pub band-lt : c .band < 4
   pub modulation-lt : c .modulation < 3
   pub taps-lt : c .taps < 2 ^ 11
+  pub blocks : c .blocks ≡ 1
+  pub copies : copyCode (c .copies) < 6

@@ -3,9 +3,10 @@ use mathlib.Core.Bool.{Bool, not, _&&_, _||_}
 use mathlib.Core.List.{[], _∷_}
 use mathlib.Core.Path.{_≡_}
 use Prim.Native.Nat.{ℕ, _<_}
-use lib.Dec.{eqb, leb}
+use lib.Dec.{eqb, leb, ltb}
 use lib.ListN.{getD}
 use Rattle.card.specs.declared.Card.{Card}
+use Rattle.card.specs.Card.{copyCode}
 
 -- the bytes of a block by its kind, 0 to 4; kind 0 is frame control
 abbrev pub blockBytes : ℕ → ℕ
@@ -24,9 +25,13 @@ definedMode band kind rate modulation =
 abbrev pub single : Card → Bool
 single c = eqb (c .blocks) 1 && eqb (c .copies) 1
 
--- a card's mode is defined, and it has one block and one copy: for kind 0 for good, for the others until T-06 and T-07 define more
+-- the defined counts by kind: one block and one copy or, of kinds 1 to 4, copies that have a code and, until T-07 defines more, one block
+abbrev pub definedCounts : ℕ → ℕ → ℕ → Bool
+definedCounts kind blocks copies = eqb blocks 1 && eqb copies 1 || not (eqb kind 0) && (ltb (copyCode copies) 6 && eqb blocks 1)
+
+-- a card's mode and its counts are defined
 abbrev pub defined : Card → Bool
-defined c = definedMode (c .band) (c .kind) (c .rate) (c .modulation) && single c
+defined c = definedMode (c .band) (c .kind) (c .rate) (c .modulation) && definedCounts (c .kind) (c .blocks) (c .copies)
 
 -- the kinds and rates that are defined: kinds 0 to 4 at rate 0 (1/2), and kind 4 alone at rate 1 (16/18)
 pub record Defined (kind rate : ℕ) : Type 0 where

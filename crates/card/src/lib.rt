@@ -15,7 +15,7 @@ ghost use Prim.Native.Nat.{_<_, _≤_};
 ghost use lib.Dec.{eqb};
 ghost use lib.ListN.{length, drop};
 ghost use Rattle.refusal.specs.Report.{answer};
-ghost use Rattle.card.specs.Modes.{blockBytes, carrierBits, definedMode, defined};
+ghost use Rattle.card.specs.Modes.{blockBytes, carrierBits, definedMode, definedCounts, defined};
 ghost use Rattle.card.specs.Card.{cardBytes, copyCount, copyCode, cardOf, paddingOf, fieldsOf};
 ghost use Rattle.card.specs.Entries.{isVersion, cardRead, readCard, readFields};
 ghost use Rattle.card.specs.Gate.{gate};
@@ -180,12 +180,28 @@ pub fn is_single(blocks: u64, copies: u64) -> bool
     copies == 1
 }
 
+// More copies than one go only with a payload.
+fn counts_serve(kind: u64, blocks: u64, copies: u64) -> bool
+    ensures { λ r. ⌜ r ≡ definedCounts kind blocks copies ⌝ }
+{
+    if is_single(blocks, copies) {
+        return true;
+    }
+    if kind == 0 {
+        return false;
+    }
+    if copy_code(copies) < 6 {
+        return blocks == 1;
+    }
+    false
+}
+
 // Whether a card's mode and its counts are defined.
 pub fn is_defined(c: Card) -> bool
     ensures { λ r. ⌜ r ≡ defined c ⌝ }
 {
     if is_defined_mode(c.band, c.kind, c.rate, c.modulation) {
-        return is_single(c.blocks, c.copies);
+        return counts_serve(c.kind, c.blocks, c.copies);
     }
     false
 }
