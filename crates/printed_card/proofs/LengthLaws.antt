@@ -9,13 +9,15 @@ use lib.ListN.{length, length-append}
 use borrow.Author.Tests.{lt-ltb}
 use Rattle.bits.proofs.BoolLaws.{test-cases, both}
 use Rattle.bits.proofs.ListLaws.{lowest-up-to}
+use Rattle.bits.proofs.RangeLaws.{under}
 use Rattle.refusal.specs.Report.{Report, done, refused}
 use Rattle.text.specs.Text.{ascii, places, decimal, binary, line}
 use Rattle.text.proofs.TextLaws.{places-le, length-decimal, length-binary, length-line}
 use Rattle.card.specs.declared.Card.{Card}
-use Rattle.card.specs.Card.{cardOf}
+use Rattle.card.specs.Card.{copyCount, copyCode, cardOf}
 use Rattle.card.specs.Entries.{isVersion, readCard}
-use Rattle.card.proofs.ModeLaws.{version-is, defined-card, defined-mode, single-is}
+use Rattle.card.proofs.ModeLaws.{version-is, defined-card, defined-mode}
+use Rattle.card.proofs.CopyLaws.{count-back}
 use Rattle.card.proofs.GateLaws.{card-read, read-sound}
 use Rattle.printed_card.specs.Text.{modeLines, countLines, cardLines, textOf, cardText, longest}
 use Rattle.printed_card.specs.Loops.Drafts.{Short}
@@ -67,9 +69,8 @@ read-short bytes c e =
     let d = cardOf bytes in
     let sound = read-sound bytes c e in
     let (version, spare) = both (isVersion (d .version)) (eqb (d .spare) 0) (sound .versions) in
-    let (mode, counts) = defined-card d (sound .mode) in
+    let (mode, blocks, copies) = defined-card d (sound .mode) in
     let (kinds, bands, modulations) = defined-mode (d .band) (d .kind) (d .rate) (d .modulation) mode in
-    let (blocks, copies) = single-is d counts in
     rw (card-read bytes c e)
     (record {
       version-lt = below (version-is (d .version) version);
@@ -78,7 +79,7 @@ read-short bytes c e =
       rate-lt = omega (arith, kinds .rate-lt);
       modulation-lt = omega (arith, modulations);
       blocks-lt = omega (arith, blocks);
-      copies-lt = omega (arith, copies);
+      copies-lt = omega (arith, count-back (d .copies) copies, under 6 100 copyCount tt (copyCode (d .copies)) copies);
     })
   where
     below : {version : ℕ} → (version ≡ 1) ⊎ (version ≡ 2) → version < 10

@@ -24,7 +24,7 @@ use Rattle.card.specs.Modes.{single, defined}
 use Rattle.card.specs.Card.{cardBytes, widths, copyCount, copyCode, fieldsFrom, packed, cardFrom, numbersOf, cardOf, paddingOf, bytesOfCard}
 use Rattle.card.specs.Entries.{versioned, padded, cardRows, readCard}
 use Rattle.card.proofs.ModeLaws.{version-is, defined-card, single-is}
-use Rattle.card.proofs.CopyLaws.{code-back, count-back, code-lt}
+use Rattle.card.proofs.CopyLaws.{code-back, count-back, code-read}
 use Rattle.card.proofs.GateLaws.{Sound, card-read, read-sound, card-taps}
 use Rattle.written_card.specs.Entries.{putInto, writeRows, writeCard}
 use Rattle.written_card.specs.Loops.Fields.{Fitting}
@@ -79,18 +79,17 @@ module _ (bytes : List ℕ) (sound : Sound bytes) where
       let some : (eqb (length bytes) 12 && eqb (cardOf bytes .version) 2 && not (eqb (paddingOf bytes) 0)) ≡ false = sound .clear in
       eqb-true (paddingOf bytes) 0 (not-false _ (rw (is, version-of is) at some))
 
-  one-copy : cardOf bytes .copies ≡ 1
-  one-copy = single-is (cardOf bytes) (defined-card (cardOf bytes) (sound .mode) .1) .1
+  coded : copyCode (cardOf bytes .copies) < 6
+  coded = defined-card (cardOf bytes) (sound .mode) .2
 
   numbers-back : numbersOf (cardOf bytes) ≡ fieldsFrom bytes 0 (widths (length bytes))
   unfolding cardOf paddingOf
   numbers-back =
       test-cases (eqb (length bytes) 12)
       (λ is.
-      let counted : copyCount (field bytes 26 3) ≡ 1 = rw is at one-copy in
       rw is
       (numbers-from (field bytes 0 4) (field bytes 4 2) (field bytes 6 3) (field bytes 9 1) (field bytes 10 2) (field bytes 12 11) (field bytes 23 1) (field bytes 24 2) (field bytes 26 3) (field bytes 29 3) (field bytes 32 64)
-      (code-back (field bytes 26 3) (code-lt (field bytes 26 3) (field-lt bytes 26 3) (omega arith))) (rw is at (padding-none is))))
+      (code-read (field bytes 26 3) (field-lt bytes 26 3) (rw is at coded)) (rw is at (padding-none is))))
       (λ other.
       rw other
       (numbers-from (field bytes 0 4) (field bytes 4 2) (field bytes 6 3) (field bytes 9 1) (field bytes 10 2) (field bytes 12 11) (field bytes 23 1) (field bytes 24 0) (field bytes 24 0) (field bytes 24 0) (field bytes 24 64)

@@ -3,12 +3,12 @@ use mathlib.Core.Path.{_≡_, refl, sym, ap, _∙_}
 use mathlib.Core.Bool.{Bool, true, false, cond, not, _&&_, _||_}
 use mathlib.Core.List.{List}
 use Prim.Native.Nat.{ℕ}
-use lib.Dec.{eqb}
+use lib.Dec.{eqb, ltb}
 use lib.ListN.{length}
 use borrow.Author.Tests.{eqb-true, eq-eqb, not-false}
 use Rattle.bits.proofs.BoolLaws.{test-cases}
 use Rattle.refusal.specs.declared.Refusal.{Refusal}
-use Rattle.refusal.specs.declared.Refusal.the-variants.{CardLength, Version}
+use Rattle.refusal.specs.declared.Refusal.the-variants.{CardLength, Version, Room}
 use Rattle.refusal.specs.Report.{done, refusal}
 use Rattle.refusal.specs.Outcome.{Outcome}
 use Rattle.refusal.proofs.OutcomeLaws.{outcomeBy, refused-outcome, passed-outcome}
@@ -20,6 +20,12 @@ use Rattle.card.proofs.GateLaws.{Sound, card-read, read-sound, card-taps, eleve
 use Rattle.written_card.specs.Entries.{putRows, putInto, inVersion, moveCard}
 use Rattle.written_card.specs.Loops.Fields.{Fitting, putCard}
 use Rattle.written_card.proofs.WriteLaws.{writable-fits}
+
+-- 5 goes before 11, in writing and in moving
+pub put-short : (c : Card) (out : List ℕ) → ltb (length out) (cardBytes (c .version)) ≡ true
+    → putCard c out ≡ record { report = refusal (Room (cardBytes (c .version))); out = out }
+unfolding putCard
+put-short c out short = rw short refl
 
 -- where row 11 does not apply, version 1 says one block and one copy
 pub said : (c : Card) → (eqb (c .version) 1 && not (single c)) ≡ false → c .version ≡ 1 → single c ≡ true

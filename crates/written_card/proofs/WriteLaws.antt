@@ -11,7 +11,7 @@ use lib.ListN.{length}
 use lib.Pow.{pow-pos, pow-add, shr-shr, high}
 use borrow.Author.Tests.{eqb-true}
 use Rattle.bits.specs.Bits.{bitAt, byteOf, bytesOf}
-use Rattle.bits.specs.Lists.{lowest, written}
+use Rattle.bits.specs.Lists.{written}
 use Rattle.bits.proofs.BoolLaws.{both}
 use Rattle.bits.proofs.BitLaws.{pack-ext, pack-shifted, length-bytes}
 use Rattle.card.specs.declared.Card.{Card}
@@ -19,6 +19,7 @@ use Rattle.card.specs.Modes.{single, defined}
 use Rattle.card.specs.Card.{cardBytes, widths, copyCode, packed, numbersOf, bytesOfCard}
 use Rattle.card.specs.Entries.{isVersion, versioned}
 use Rattle.card.proofs.ModeLaws.{defined-mode, defined-card, single-is, version-is}
+use Rattle.card.proofs.CopyLaws.{code-back}
 use Rattle.written_card.specs.Entries.{putInto, inVersion}
 use Rattle.written_card.specs.Loops.Fields.{Fitting, headOf, cardByte}
 
@@ -76,10 +77,6 @@ length-card c = length-bytes (cardBytes (c .version)) _
 
 -- ---- a card in some memory
 
-code-of-one : copyCode 1 ≡ 0
-unfolding copyCode lowest
-code-of-one = refl
-
 module _ (c : Card) (out now : List ℕ) where
   abbrev number : ℕ → ℕ
   number bytes = packed (widths bytes) (numbersOf c) 0
@@ -96,7 +93,7 @@ module _ (c : Card) (out now : List ℕ) where
   pub stored-1 : c .version ≡ 1 → single c ≡ true → now ≡ written 11 (cardByte 3 (headOf c / 256) (c .serial)) out → now ≡ putInto c out
   stored-1 is one e =
       let (blocks, copies) = single-is c one in
-      let code : copyCode (c .copies) ≡ 0 = ap copyCode copies ∙ code-of-one in
+      let code : copyCode (c .copies) ≡ 0 = ap copyCode copies ∙ code-back 0 (omega arith) in
       let same : number 11 ≡ headOf c / 256 * 2 ^ 64 + c .serial = ap (λ (x : ℕ). x * 2 ^ 64 + c .serial) (omega arith) in
       stored 3 (headOf c / 256) (rw is refl) same e
 
@@ -113,11 +110,9 @@ version-1 version is other = ⊎-elim (λ one. one) (λ two. absurd (other two))
 pub writable-fits : (c : Card) → versioned c ≡ true → defined c ≡ true → c .taps < 2 ^ 11 → Fitting c
 writable-fits c v w taps =
     let (version, spare) = both (isVersion (c .version)) (eqb (c .spare) 0) v in
-    let (mode, one) = defined-card c w in
+    let (mode, blocks, copies) = defined-card c w in
     let (kinds, bands, modulations) = defined-mode (c .band) (c .kind) (c .rate) (c .modulation) mode in
-    let (blocks, copies) = single-is c one in
     let none = eqb-true (c .spare) 0 spare in
-    let code : copyCode (c .copies) ≡ 0 = ap copyCode copies ∙ code-of-one in
     record {
       version = version;
       version-lt = version-small (c .version) version;
@@ -129,7 +124,7 @@ writable-fits c v w taps =
       spare = omega arith;
       blocks-from = omega arith;
       blocks-to = omega arith;
-      copies = omega arith;
+      copies = copies;
     }
 
 -- they fit in another version too

@@ -67,10 +67,12 @@ fn put_card(c: Card, out: &mut [u8]) -> Answer
     ensures bytes { λ _. ⌜ now (out .exit) ≡ putCard c (now (out .entry)) .out ⌝ }
 {
     let bytes = card::card_bytes(c.version);
-    if out.len() < bytes {
+    let short = out.len() < bytes;
+    let unsaid = is_unsaid(c.version, c.blocks, c.copies);
+    if short {
         return Answer::Refused(Refusal::Room(bytes));
     }
-    if is_unsaid(c.version, c.blocks, c.copies) {
+    if unsaid {
         return Answer::Refused(Refusal::Counts);
     }
     store_card(c, out);
