@@ -66,7 +66,7 @@ numbers-from version band kind rate modulation taps spare blocks code padding se
     let same : blocks + 1 - 1 ≡ blocks = omega arith in
     rw (same, coded, none) refl
 
--- a card of twelve bytes that is read is of version 2, and its padding is 0
+-- a card that is read: of twelve bytes it is of version 2, and its padding is 0; its copies have a code
 module _ (bytes : List ℕ) (sound : Sound bytes) where
   version-of : eqb (length bytes) 12 ≡ true → eqb (cardOf bytes .version) 2 ≡ true
   version-of is = test-cases (eqb (cardOf bytes .version) 2) (λ two. two) (λ other. absurd (twelve (rw other at (sound .long)) (eqb-true (length bytes) 12 is)))
