@@ -9,7 +9,7 @@ use lib.ListN.{getD}
 use borrow.Author.Tests.{eqb-true, eqb-false}
 use Rattle.bits.specs.Ranges.{allBelow}
 use Rattle.bits.proofs.NumberLaws.{lt-cases}
-use Rattle.bits.proofs.RangeLaws.{at-each, agree, agree₂, under, under₂}
+use Rattle.bits.proofs.RangeLaws.{at-each, at-each₂, agree, agree₂, under, under₂}
 use Rattle.card.specs.Modes.{blockBytes, Defined}
 use Rattle.interleaver_shape.specs.declared.Shape.{Shape}
 use Rattle.interleaver_shape.specs.Shapes.{codedOf, codedBits, offsets, steps, groups, leads, shapeOf}
@@ -86,3 +86,10 @@ unfolding codedBits
 coded-le kind rate D =
     le-of-suc-le-suc
     (under₂ 5 2 8321 (λ k r. (blockBytes k * 2 + blockBytes k * 2 / getD groups r 0) * 4) tt kind rate (D .kind-lt) (D .rate-lt))
+
+-- every block has some
+pub coded-some : (kind rate : ℕ) → Defined kind rate → zero < codedBits kind rate
+unfolding codedBits
+coded-some kind rate D =
+    ltb→lt 0 ((blockBytes kind * 2 + blockBytes kind * 2 / getD groups rate 0) * 4)
+    (at-each₂ 5 2 (λ k r. ltb 0 ((blockBytes k * 2 + blockBytes k * 2 / getD groups r 0) * 4)) tt kind rate (D .kind-lt) (D .rate-lt))

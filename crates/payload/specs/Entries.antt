@@ -24,16 +24,16 @@ use Rattle.payload_layout.specs.Items.{carries, sentOn}
 
 -- ---- the layout
 
--- the layout of a block's coded bits under a card, and under the card in some bytes
+-- the layout of a block's coded bits under a card, in as many copies as it says, and under the card in some bytes
 abbrev pub blockLayout : Card → Layout
-blockLayout c = layoutOf (c .band) (c .modulation) (codedBits (c .kind) (c .rate))
+blockLayout c = layoutOf (c .band) (c .modulation) (c .copies) (codedBits (c .kind) (c .rate))
 
 abbrev pub layoutOfCard : List ℕ → Layout
 layoutOfCard card = blockLayout (cardOf card)
 
 -- ---- sending
 
--- item n of a block on a layout: a copy of the coded bit that it carries, where the block is scrambled before it is coded
+-- item n of a block on a layout: a copy of the coded bit that it carries, if any, where the block is scrambled before it is coded
 unfoldable pub sentItem : Layout → ℕ → ℕ → ℕ → List ℕ → ℕ → ℕ
 sentItem L kind rate taps block n = sentOn L (codedBit kind rate taps (scrambled (bitOf block))) n
 

@@ -1,4 +1,5 @@
-// One payload block of 72, 136, 264 or 520 bytes: from its bytes to items on carriers, and from received items back to its bytes.
+// One payload block of 72, 136, 264 or 520 bytes, copied as often as its card says: from its bytes to items on carriers, and from received
+// items back to its bytes.
 //
 // Public entries: `send` and `read`. Nothing else is `pub`.
 use card::Card;
@@ -17,13 +18,18 @@ ghost use Rattle.payload_layout.specs.Layouts.{items as itemsOf};
 ghost use Rattle.payload.specs.Loops.Blocks.{LaidBlock};
 ghost use Rattle.payload.specs.Entries.{blockLayout, sentItem, sendBy, send as sendOutcome, decidedBit, decidedBlock, readBy, read as readOutcome};
 
-// The layout of a block's coded bits.
+// The layout of a block's coded bits, in as many copies as the card says.
 fn block_layout(c: Card) -> Layout
     requires { ⌜ Served 1 4 c ⌝ }
     ensures { λ l. ⌜ l ≡ blockLayout c ⌝ }
 {
     let coded = interleaver_shape::coded_bits(c.kind as usize, c.rate as usize);
-    payload_layout::layout_of(c.band as usize, c.modulation as usize, coded)
+    payload_layout::layout_of(
+        c.band as usize,
+        c.modulation as usize,
+        c.copies as usize,
+        coded,
+    )
 }
 
 // ---- sending
@@ -39,7 +45,7 @@ fn send_items(l: Layout, kind: usize, rate: usize, taps: u16, block: &[u8], out:
     let mut coded = [0u8; 8320];
     scrambler::scramble(block, &mut scrambled);
     fec::encode(kind, rate, taps, &scrambled[..size], &mut coded);
-    payload_layout::lay_out(l, &coded[..count], out);
+    payload_copying::lay_out(l, &coded[..count], out);
 }
 
 // Sending behind the card's checks: refusal 4 or 5, or the items.
@@ -95,7 +101,7 @@ fn read_items(
     ensures bytes { λ _. ⌜ now (out .exit) ≡ decidedBlock kind rate taps (decidedBit l (now (items .entry))) (now (out .entry)) .out ⌝ }
 {
     let mut decided = [0u8; 8320];
-    payload_layout::decide(l, items, &mut decided);
+    payload_combining::decide(l, items, &mut decided);
     let count = l.coded;
     let mut block = [0u8; 520];
     match recovery::recover(kind, rate, taps, &decided[..count], &mut block) {

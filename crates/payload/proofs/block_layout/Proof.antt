@@ -1,8 +1,8 @@
--- `payload::block_layout` meets its contract: a card that is served has few coded bits. Assumes nothing.
+-- `payload::block_layout` meets its contract: a card that is served has some coded bits, and few. Assumes nothing.
 use mathlib.Core.Path.{ap, _∙_}
 use Prim.Native.Nat.{ℕ}
 use native.Mathlib.Omega.{arith}
-use Rattle.interleaver_shape.proofs.ShapeLaws.{coded-le}
+use Rattle.interleaver_shape.proofs.ShapeLaws.{coded-some, coded-le}
 use Rattle.payload_layout.specs.Layouts.{layoutOf}
 use borrow.Author.Needs.{needs}
 use Rattle.payload.proofs.block_layout.Statement.{statement}
@@ -14,12 +14,18 @@ coded-bits-requires c κs = search needs
 layout-of-requires : tie.Need-layout-of-requires
 layout-of-requires c κs =
     let z = c .before in
-    (z .pre .band-lt, z .pre .modulation-lt, omega (arith, c .coded-bits .ensures, coded-le (z .args .c .kind) (z .args .c .rate) (z .pre .kinds)))
+    let coded = c .coded-bits .ensures in (
+      z .pre .band-lt,
+      z .pre .modulation-lt,
+      z .pre .copies,
+      omega (arith, coded, coded-some (z .args .c .kind) (z .args .c .rate) (z .pre .kinds)),
+      omega (arith, coded, coded-le (z .args .c .kind) (z .args .c .rate) (z .pre .kinds)),
+    )
 
 returns : tie.Need-returns
 returns c =
     let z = c .before .before in
-    c .layout-of .ensures ∙ ap (λ (n : ℕ). layoutOf (z .args .c .band) (z .args .c .modulation) n) (c .before .coded-bits .ensures)
+    c .layout-of .ensures ∙ ap (λ (n : ℕ). layoutOf (z .args .c .band) (z .args .c .modulation) (z .args .c .copies) n) (c .before .coded-bits .ensures)
 
 pub block-layout-spec : {M : Type 1} → statement M
 block-layout-spec = tie.close (tie.spec coded-bits-requires layout-of-requires returns)
