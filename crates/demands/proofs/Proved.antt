@@ -32,13 +32,14 @@ use Rattle.constellation.specs.Entries.{mapRows, mapOutcome}
 use Rattle.slicing.specs.Entries.{sliceRows, sliceOutcome}
 use Rattle.diversity.proofs.BandLaws.{band-range, band-fewest-met, band-most-met, fewest-of}
 use Rattle.payload_layout.specs.Items.{sentOn}
-use Rattle.payload_layout.proofs.ItemLaws.{sent-carries}
-use Rattle.payload_layout.specs.Layouts.{symbolBits, layoutFor, layoutOf, items}
+use Rattle.payload_layout.proofs.PlainLaws.{all-used, one-carried, carried-below}
+use Rattle.payload_layout.proofs.ItemLaws.{sent-carries, unused-carries, unused-sent}
+use Rattle.payload_layout.specs.Layouts.{layoutBy, layoutFor, layoutOf, items}
 use Rattle.payload.specs.Entries.{layoutOfCard, sendRows, send as payloadSend, readRows as payloadReadRows, read as payloadRead}
 use Rattle.payload.specs.Words.{made as payloadMade}
-use Rattle.payload.proofs.ModeLaws.{mode-pad, layout-within, layout-items}
-use Rattle.payload.proofs.ReturnLaws.{blockBits, send-good as payload-sent, made-is as payload-made-is, clean as payload-clean, survives as payload-back, made-length as payload-length, made-binary as payload-binary}
-use Rattle.demands.specs.Demands.{Keeps, Outgoing, PayloadOutgoing, CardWritten, CardReadAgain, CardMoved, CleanReturn, PayloadCleanReturn, PayloadSurvives, Lanes, Fewest, Survives, BestPossible, BandsOfCards, PadWithin, CardPadWithin, Lengths}
+use Rattle.payload.proofs.ModeLaws.{mode-pads, layout-bits, copies-as-said, layout-within, layout-served, layout-items}
+use Rattle.payload.proofs.ReturnLaws.{blockBits, send-good as payload-sent, made-is as payload-made-is, copies-of, copies-at-least, copies-at-most, alike, clean as payload-clean, survives as payload-back, survives-copies as payload-back-copies, made-length as payload-length, made-binary as payload-binary}
+use Rattle.demands.specs.Demands.{Keeps, Outgoing, PayloadOutgoing, CardWritten, CardReadAgain, CardMoved, CleanReturn, PayloadCleanReturn, PayloadSurvives, PayloadSurvivesCopies, PayloadCopies, SentOnce, UnusedSilent, UnusedUnheard, Lanes, Fewest, Survives, BestPossible, BandsOfCards, PadWithin, CardPadWithin, Lengths}
 
 -- ---- Demand 1
 
@@ -123,7 +124,7 @@ best-possible card word good is out back room space = refused-at-limit card word
 
 -- a carrier's items are as many as the modulation has bits
 whole-carriers : (card : List ℕ) → items (layoutOfCard card) ≡ carrierBits (cardOf card .modulation) * (layoutOfCard card .symbols * layoutOfCard card .carriers)
-unfolding items symbolBits layoutOf layoutFor
+unfolding items layoutOf layoutFor layoutBy
 whole-carriers card = let L = layoutOfCard card in sym (mul-assoc (L .symbols) (L .carriers) (L .bits)) ∙ mul-comm (L .symbols * L .carriers) (L .bits)
 
 pub payload-clean-return : PayloadCleanReturn
@@ -135,6 +136,9 @@ payload-clean-return card block good is out back room space = (payload-clean car
         ap (λ (n : ℕ). tabulate n (throughPoints (cardOf card .modulation) (λ n. getD (payloadMade card block out) n 0))) (sym long)
         ∙ list-back (cardOf card .modulation) (payloadMade card block out) _ (gate-served 1 4 card (cardOf card) good .modulation-lt) (long ∙ whole-carriers card)
         (λ k h. payload-binary card good block is out room k (omega arith))
+
+pub payload-survives-copies : PayloadSurvivesCopies
+payload-survives-copies card block good is out received back room damage space few = payload-back-copies card good block is out received back room damage space few
 
 pub payload-survives : PayloadSurvives
 payload-survives card block good is out received back room damage space few = payload-back card good block is out received back room damage space few
@@ -153,10 +157,36 @@ bands-of-cards band kind rate modulation = apart (leb band 3) _ _ _ _ ∙ ap (λ
     known false e = sym (le-ltb band bandCount (omega (arith, leb-false band 3 e)))
 
 pub pad-within : PadWithin
-pad-within band kind rate modulation is other = mode-pad band kind rate modulation is (omega (arith, other))
+unfolding layoutOf layoutFor layoutBy
+pad-within band kind rate modulation copies is other counts = mode-pads band kind rate modulation copies is (omega (arith, other)) counts
 
 pub card-pad-within : CardPadWithin
-card-pad-within card good = layout-within (cardOf card) (gate-served 1 4 card (cardOf card) good)
+card-pad-within card good =
+    let c = cardOf card in
+    let served = gate-served 1 4 card c good in (
+      rw (copies-as-said c) at (layout-within c served),
+      λ n h u. rw (layout-bits c) at (carried-below (layoutOfCard card) (layout-served c served) n h u),
+    )
+
+pub payload-copies : PayloadCopies
+payload-copies card good b h = (copies-of card good b h, copies-at-least card good b h, copies-at-most card good b h)
+
+pub sent-once : SentOnce
+sent-once card good one n h =
+    let c = cardOf card in
+    let s = layout-served c (gate-served 1 4 card c good) .sound in
+    let once = copies-as-said c ∙ one in
+    (all-used (layoutOfCard card) s once n h, rw (layout-bits c) at (one-carried (layoutOfCard card) s once n h))
+
+pub unused-silent : UnusedSilent
+unused-silent card block good is out room n h u = (
+  λ b. unused-carries (layoutOfCard card) n b u,
+  ap (λ (l : List ℕ). getD l n 0) (payload-made-is card good block is out room)
+      ∙ getD-tabulate (items (layoutOfCard card)) (sentOn (layoutOfCard card) (blockBits card block)) n 0 h ∙ unused-sent (layoutOfCard card) (blockBits card block) n u,
+)
+
+pub unused-unheard : UnusedUnheard
+unused-unheard card good left right back dl dr room same = alike card good left right back dl dr room same
 
 pub lengths : Lengths
 unfolding itemCount carrierCount carriers offsets

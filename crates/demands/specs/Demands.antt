@@ -1,8 +1,8 @@
 -- The three demands, over the same outcome definitions that the entries' contracts cite. proofs/Proved.antt proves each. Assumes nothing.
-use mathlib.Core.Bool.{true, false, _&&_}
+use mathlib.Core.Bool.{true, false, cond, _&&_}
 use mathlib.Core.List.{List, [], _∷_, _++_}
 use mathlib.Core.Path.{_≡_}
-use Prim.Native.Nat.{ℕ, _+_, _*_, _^_, _≤_, _<_}
+use Prim.Native.Nat.{ℕ, _+_, _-_, _*_, _^_, _≤_, _<_}
 use lib.Dec.{T, ltb}
 use lib.Ieee.{Float}
 use lib.ListN.{length, getD, take, drop}
@@ -12,7 +12,7 @@ use Rattle.refusal.specs.declared.Refusal.the-variants.{Counts}
 use Rattle.refusal.specs.Report.{done, refusal, number}
 use Rattle.refusal.specs.Outcome.{Outcome}
 use Rattle.card.specs.declared.Card.{Card}
-use Rattle.card.specs.Card.{cardOf}
+use Rattle.card.specs.Card.{copyCode, cardOf}
 use Rattle.card.specs.Modes.{blockBytes, definedMode, single}
 use Rattle.card.specs.Entries.{readCard, readFields}
 use Rattle.written_card.specs.Entries.{writeCard, inVersion, moveCard}
@@ -30,7 +30,7 @@ use Rattle.bands.specs.Bands.{bandCount, carriers, offsets}
 use Rattle.diversity.specs.Lanes.{laneBit, carrierCount, itemCount}
 use Rattle.diversity.specs.Copies.{copiesOn, fewestCopies, bandFewest, bandMost}
 use Rattle.payload_layout.specs.Layouts.{layoutOf, items as itemsOf}
-use Rattle.payload_layout.specs.Items.{carries}
+use Rattle.payload_layout.specs.Items.{used, carried, carries}
 use Rattle.payload.specs.Entries.{layoutOfCard, send as payloadSend, read as payloadRead}
 use Rattle.payload.specs.Words.{GoodCard as GoodPayloadCard, Block, made as payloadMade}
 use Rattle.frame_control.specs.Entries.{carriersOf, offsetsOf, itemCountOf, tapsOf, send, read}
@@ -64,7 +64,7 @@ Outgoing =
     → (send card word out .report ≡ done (itemCountOf card))
     × ((n : ℕ) → n < itemCountOf card → getD (made card word out) n 0 ≡ codedBit 0 0 (tapsOf card) (bitOf word) (laneBit (carriersOf card) (offsetsOf card) n))
 
--- So does a payload block, scrambled before it is coded, and each item is the coded bit that it carries by the layout.
+-- So does a payload block, scrambled before it is coded, and each item is the coded bit that it carries by the layout, if any.
 abbrev pub PayloadOutgoing : Type 0
 PayloadOutgoing =
     (card block : List ℕ) → GoodPayloadCard card → Block (cardOf card .kind) block → (out : List ℕ) → itemsOf (layoutOfCard card) ≤ length out
@@ -163,23 +163,68 @@ PayloadSurvives =
     < copies (itemsOf (layoutOfCard card)) (carries (layoutOfCard card)) b)
     → payloadRead card received back ≡ record { report = done (blockBytes (cardOf card .kind)); out = block ++ drop (blockBytes (cardOf card .kind)) back }
 
+-- So it does whenever for each coded bit they are below the copy count that the card says.
+abbrev pub PayloadSurvivesCopies : Type 0
+PayloadSurvivesCopies =
+    (card block : List ℕ) → GoodPayloadCard card → Block (cardOf card .kind) block → (out received back : List ℕ) → itemsOf (layoutOfCard card) ≤ length out
+    → Damage (itemsOf (layoutOfCard card)) received → blockBytes (cardOf card .kind) ≤ length back
+    → ((b : ℕ) → b < codedBits (cardOf card .kind) (cardOf card .rate)
+    → 2 * wrongCopies (itemsOf (layoutOfCard card)) (carries (layoutOfCard card)) (payloadMade card block out) received b
+    + lostCopies (itemsOf (layoutOfCard card)) (carries (layoutOfCard card)) received b
+    < cardOf card .copies)
+    → payloadRead card received back ≡ record { report = done (blockBytes (cardOf card .kind)); out = block ++ drop (blockBytes (cardOf card .kind)) back }
+
+-- Each coded bit of a payload has as many copies as its card says, and one more where a pad repeats it: at least that many, and at most twelve.
+abbrev pub PayloadCopies : Type 0
+PayloadCopies =
+    (card : List ℕ) → GoodPayloadCard card → (b : ℕ) → b < codedBits (cardOf card .kind) (cardOf card .rate)
+    → (copies (itemsOf (layoutOfCard card)) (carries (layoutOfCard card)) b ≡ cardOf card .copies + cond (ltb b (cardOf card .copies * layoutOfCard card .pad)) 1 0)
+    × (cardOf card .copies ≤ copies (itemsOf (layoutOfCard card)) (carries (layoutOfCard card)) b)
+    × (copies (itemsOf (layoutOfCard card)) (carries (layoutOfCard card)) b ≤ 12)
+
+-- Sent once, item n carries coded bit n, and from the pad on bit n less the number of coded bits; every item is used.
+abbrev pub SentOnce : Type 0
+SentOnce =
+    (card : List ℕ) → GoodPayloadCard card → cardOf card .copies ≡ 1 → (n : ℕ) → n < itemsOf (layoutOfCard card)
+    → let coded = codedBits (cardOf card .kind) (cardOf card .rate) in
+    (used (layoutOfCard card) n ≡ true) × (carried (layoutOfCard card) n ≡ cond (ltb n coded) n (n - coded))
+
+-- An item on an unused carrier carries no bit and goes out as 0.
+abbrev pub UnusedSilent : Type 0
+UnusedSilent =
+    (card block : List ℕ) → GoodPayloadCard card → Block (cardOf card .kind) block → (out : List ℕ) → itemsOf (layoutOfCard card) ≤ length out
+    → (n : ℕ) → n < itemsOf (layoutOfCard card) → used (layoutOfCard card) n ≡ false
+    → ((b : ℕ) → carries (layoutOfCard card) n b ≡ false) × (getD (payloadMade card block out) n 0 ≡ 0)
+
+-- It has no vote: receptions of the right length and legal that agree on every item which carries a bit come to the same.
+abbrev pub UnusedUnheard : Type 0
+UnusedUnheard =
+    (card : List ℕ) → GoodPayloadCard card → (left right back : List ℕ) → Damage (itemsOf (layoutOfCard card)) left → Damage (itemsOf (layoutOfCard card)) right
+    → blockBytes (cardOf card .kind) ≤ length back
+    → ((n b : ℕ) → n < itemsOf (layoutOfCard card) → T (carries (layoutOfCard card) n b) → getD left n 0 ≡ getD right n 0)
+    → payloadRead card left back ≡ payloadRead card right back
+
 -- A card can name every band and no other number: on each the same modes are defined.
 abbrev pub BandsOfCards : Type 0
 BandsOfCards = (band kind rate modulation : ℕ) → definedMode band kind rate modulation ≡ (ltb band bandCount && definedMode 0 kind rate modulation)
 
--- For every band, kind, rate and modulation that `definedMode` takes, other than kind 0, the pad of a block sent once is at most its coded
--- bits. Paper 01 had a check for this, refusal 9, which is withdrawn.
+-- For every band, kind, rate and modulation that `definedMode` takes, other than kind 0, and every copy count, the pads of all copies are
+-- together at most the coded bits. Paper 01 had a check for this at one copy, refusal 9, which is withdrawn.
 abbrev pub PadWithin : Type 0
 PadWithin =
-    (band kind rate modulation : ℕ) → definedMode band kind rate modulation ≡ true → (kind ≡ 0 → ⊥)
-    → layoutOf band modulation (codedBits kind rate) .pad ≤ codedBits kind rate
+    (band kind rate modulation copies : ℕ) → definedMode band kind rate modulation ≡ true → (kind ≡ 0 → ⊥) → copyCode copies < 6
+    → copies * layoutOf band modulation copies (codedBits kind rate) .pad ≤ codedBits kind rate
 
--- So every card that is good at the payload entries has such a pad.
+-- So it is under every card that is good at the payload entries, and every used item carries a coded bit.
 abbrev pub CardPadWithin : Type 0
-CardPadWithin = (card : List ℕ) → GoodPayloadCard card → layoutOfCard card .pad ≤ codedBits (cardOf card .kind) (cardOf card .rate)
+CardPadWithin =
+    (card : List ℕ) → GoodPayloadCard card
+    → (cardOf card .copies * layoutOfCard card .pad ≤ codedBits (cardOf card .kind) (cardOf card .rate))
+    × ((n : ℕ) → n < itemsOf (layoutOfCard card) → used (layoutOfCard card) n ≡ true
+    → carried (layoutOfCard card) n < codedBits (cardOf card .kind) (cardOf card .rate))
 
 -- The lengths that a caller makes room for: the items of a frame control by band, and the most items and bytes of a payload.
 abbrev pub Lengths : Type 0
 Lengths =
     ((band : ℕ) → band < bandCount → itemCount (carriers band) (offsets band) ≡ getD (3288 ∷ 3144 ∷ 2136 ∷ 1176 ∷ []) band 0)
-    × ((card : List ℕ) → GoodPayloadCard card → (itemsOf (layoutOfCard card) ≤ 9864) × (blockBytes (cardOf card .kind) ≤ 520))
+    × ((card : List ℕ) → GoodPayloadCard card → (itemsOf (layoutOfCard card) ≤ 101920) × (blockBytes (cardOf card .kind) ≤ 520))

@@ -21,7 +21,7 @@ use Rattle.interleaver_shape.specs.Shapes.{codedBits}
 use Rattle.interleaver_shape.proofs.ShapeLaws.{coded-some, coded-le}
 use Rattle.payload_layout.specs.declared.Layout.{Layout}
 use Rattle.payload_layout.specs.Layouts.{spanOf, usedOf, groupOf, lastGroupBits, padBits, layoutBy, layoutFor, layoutOf, items, mostItems, Laid}
-use Rattle.payload_layout.proofs.LayoutLaws.{layout-coded, layout-laid}
+use Rattle.payload_layout.proofs.LayoutLaws.{layout-coded, layout-copies, layout-laid}
 use Rattle.payload.specs.Entries.{blockLayout}
 
 -- ---- by mode and copy count
@@ -70,6 +70,9 @@ module _ (band kind rate modulation copies : ℕ) (is : definedMode band kind ra
 
 pub layout-bits : (c : Card) → blockLayout c .coded ≡ codedBits (c .kind) (c .rate)
 layout-bits c = layout-coded (c .band) (c .modulation) (c .copies) (codedBits (c .kind) (c .rate))
+
+pub copies-as-said : (c : Card) → blockLayout c .copies ≡ c .copies
+copies-as-said c = layout-copies (c .band) (c .modulation) (c .copies) (codedBits (c .kind) (c .rate))
 
 module _ (c : Card) (S : Served 1 4 c) where
   is-defined : definedMode (c .band) (c .kind) (c .rate) (c .modulation) ≡ true

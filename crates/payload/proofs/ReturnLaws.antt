@@ -1,9 +1,10 @@
 -- Clean return and the law of the majority over the entries' outcome definitions. Assumes nothing.
 use mathlib.Core.Path.{_≡_, sym, ap, _∙_}
+use mathlib.Core.Bool.{cond}
 use mathlib.Core.List.{List, _++_}
 use Prim.Native.Nat.{ℕ, _+_, _*_, _≤_, _<_}
 use native.Mathlib.Omega.{arith}
-use lib.Dec.{ltb}
+use lib.Dec.{T, ltb}
 use lib.ListN.{length, getD, take, drop}
 use borrow.Author.Tests.{le-ltb}
 use Rattle.bits.specs.Bits.{bitOf, bytesOf}
@@ -27,13 +28,15 @@ use Rattle.recovery.specs.Recovery.{dataBit, firstUndecided, disagreeing, recov
 use Rattle.recovery.proofs.RecoveryLaws.{clean-data, clean-rows, refused-parity}
 use Rattle.votes.specs.Votes.{copies, wrongCopies, lostCopies}
 use Rattle.votes.specs.Damage.{Damage}
+use Rattle.votes.proofs.VoteLaws.{own-items}
 use Rattle.votes.proofs.DamageLaws.{none-above}
 use Rattle.payload_layout.specs.Layouts.{items, Laid}
 use Rattle.payload_layout.specs.Items.{carries, sentOn}
+use Rattle.payload_layout.proofs.CountLaws.{copies-are, copies-most}
 use Rattle.payload_layout.proofs.ItemLaws.{sent-binary, decided-clean, decided-damaged}
 use Rattle.payload.specs.Entries.{layoutOfCard, sentItem, send, decidedBit, blockMade, decidedBlock, read}
 use Rattle.payload.specs.Words.{GoodCard, Block, made}
-use Rattle.payload.proofs.ModeLaws.{layout-bits, layout-served}
+use Rattle.payload.proofs.ModeLaws.{layout-bits, copies-as-said, layout-served}
 use Rattle.payload.proofs.EntryLaws.{send-passed, send-done, read-passed, read-decided, block-refused}
 
 -- the coded bits of a block under a card
@@ -47,6 +50,19 @@ module _ (card : List ℕ) (good : GoodCard card) where
   laid : Laid (layoutOfCard card)
   laid = layout-served (cardOf card) served
 
+  -- each coded bit has as many copies as the card says, and one more where a pad repeats it
+  pub copies-of : (b : ℕ) → b < codedBits (cardOf card .kind) (cardOf card .rate)
+      → copies (items (layoutOfCard card)) (carries (layoutOfCard card)) b ≡ cardOf card .copies + cond (ltb b (cardOf card .copies * layoutOfCard card .pad)) 1 0
+  copies-of b h =
+      copies-are (layoutOfCard card) (laid .sound) b (rw (layout-bits (cardOf card)) h)
+      ∙ ap (λ (c : ℕ). c + cond (ltb b (c * layoutOfCard card .pad)) 1 0) (copies-as-said (cardOf card))
+
+  pub copies-at-least : (b : ℕ) → b < codedBits (cardOf card .kind) (cardOf card .rate) → cardOf card .copies ≤ copies (items (layoutOfCard card)) (carries (layoutOfCard card)) b
+  copies-at-least b h = omega (arith, copies-of b h)
+
+  pub copies-at-most : (b : ℕ) → b < codedBits (cardOf card .kind) (cardOf card .rate) → copies (items (layoutOfCard card)) (carries (layoutOfCard card)) b ≤ 12
+  copies-at-most b h = copies-most (layoutOfCard card) (laid .sound) b (rw (layout-bits (cardOf card)) h) (laid .small)
+
   -- reading legal items of the right number under a good card comes to the decided bits
   pub read-good : (received back : List ℕ) → Damage (items (layoutOfCard card)) received → blockBytes (cardOf card .kind) ≤ length back
       → read card received back ≡ decidedBlock (cardOf card .kind) (cardOf card .rate) (cardOf card .taps) (decidedBit (layoutOfCard card) received) back
@@ -54,6 +70,18 @@ module _ (card : List ℕ) (good : GoodCard card) where
       read-passed card received back (cardOf card) good
       ∙ read-decided (cardOf card) received back (damage .long) room
       (omega (arith, none-above (items (layoutOfCard card)) received damage))
+
+  -- Items that carry no bit have no vote: receptions that agree on the others come to the same.
+  pub alike : (left right back : List ℕ) → Damage (items (layoutOfCard card)) left → Damage (items (layoutOfCard card)) right → blockBytes (cardOf card .kind) ≤ length back
+      → ((n b : ℕ) → n < items (layoutOfCard card) → T (carries (layoutOfCard card) n b) → getD left n 0 ≡ getD right n 0)
+      → read card left back ≡ read card right back
+  unfolding decidedBit
+  alike left right back dl dr room same =
+      read-good left back dl room
+      ∙ ap (λ (e : ℕ → ℕ). decidedBlock (cardOf card .kind) (cardOf card .rate) (cardOf card .taps) e back) (λ i b. each b i) ∙ sym (read-good right back dr room)
+    where
+      each : (b : ℕ) → decidedBit (layoutOfCard card) left b ≡ decidedBit (layoutOfCard card) right b
+      each b = own-items (items (layoutOfCard card)) (carries (layoutOfCard card)) left right b (λ n h t. same n b h t)
 
   -- Refusal 8: where each coded bit is decided and parity disagrees, the count is the number of kept parity bits that disagree.
   pub parity-counted : (received back : List ℕ) → Damage (items (layoutOfCard card)) received → blockBytes (cardOf card .kind) ≤ length back
@@ -154,6 +182,15 @@ module _ (card : List ℕ) (good : GoodCard card) where
     survives out received back room damage space few =
         block-back received back damage space (λ b h.
         decided-damaged (layoutOfCard card) (blockBits card block) received b (bits-binary b) (damage .legal) (rw (made-is out room) at (few b h)))
+
+    -- So do those of which each coded bit has them below the card's copy count.
+    pub survives-copies : (out received back : List ℕ) → items (layoutOfCard card) ≤ length out → Damage (items (layoutOfCard card)) received → blockBytes (cardOf card .kind) ≤ length back
+        → ((b : ℕ) → b < codedBits (cardOf card .kind) (cardOf card .rate)
+        → 2 * wrongCopies (items (layoutOfCard card)) (carries (layoutOfCard card)) (made card block out) received b + lostCopies (items (layoutOfCard card)) (carries (layoutOfCard card)) received b
+        < cardOf card .copies)
+        → read card received back ≡ record { report = done (blockBytes (cardOf card .kind)); out = block ++ drop (blockBytes (cardOf card .kind)) back }
+    survives-copies out received back room damage space few =
+        survives out received back room damage space (λ b h. omega (arith, few b h, copies-at-least b h))
 
     -- what was made is so many bits
     pub made-length : (out : List ℕ) → items (layoutOfCard card) ≤ length out → length (made card block out) ≡ items (layoutOfCard card)

@@ -7,11 +7,9 @@ use native.Mathlib.Omega.{arith}
 use lib.Dec.{T, eqb, ltb, eqb→eq}
 use lib.ListN.{getD}
 use Rattle.bits.specs.Lists.{tabulate}
-use Rattle.bits.specs.Sums.{count}
 use Rattle.bits.proofs.BoolLaws.{test-cases}
 use Rattle.bits.proofs.ListLaws.{getD-tabulate}
-use Rattle.bits.proofs.SumLaws.{count-ext}
-use Rattle.votes.specs.Votes.{copies, votes, majority, wrongCopies, lostCopies, decided}
+use Rattle.votes.specs.Votes.{copies, wrongCopies, lostCopies, decided}
 use Rattle.votes.proofs.VoteLaws.{decided-as-sent, undamaged}
 use Rattle.payload_layout.specs.declared.Layout.{Layout}
 use Rattle.payload_layout.specs.Layouts.{items, Sound, Laid}
@@ -82,17 +80,3 @@ module _ (L : Layout) (d : ℕ → ℕ) (received : List ℕ) (b : ℕ) (bit : d
   decided-damaged legal h =
       decided-as-sent (items L) (carries L) (tabulate (items L) (sentOn L d)) received b (d b) bit
       (λ n l t. getD-tabulate (items L) (sentOn L d) n 0 l ∙ sent-carries L d n b t) (λ n l t. legal n l) h
-
--- ---- items on unused carriers have no vote
-
-module _ (L : Layout) (left right : List ℕ) (same : (n : ℕ) → n < items L → used L n ≡ true → getD left n 0 ≡ getD right n 0) (b : ℕ) where
-  votes-alike : (v : ℕ) → votes (items L) (carries L) left b v ≡ votes (items L) (carries L) right b v
-  unfolding votes carries
-  votes-alike v =
-      count-ext (items L) _ _
-      (λ n h.
-      test-cases (used L n) (λ u. rw (u, same n h u)) (λ u. rw u))
-
-  pub decided-alike : decided (items L) (carries L) left b ≡ decided (items L) (carries L) right b
-  unfolding decided
-  decided-alike = ap₂ majority (votes-alike 0) (votes-alike 1)

@@ -23,6 +23,10 @@ pub layout-coded : (band modulation copies coded : ℕ) → layoutOf band modula
 unfolding layoutOf layoutFor layoutBy
 layout-coded band modulation copies coded = refl
 
+pub layout-copies : (band modulation copies coded : ℕ) → layoutOf band modulation copies coded .copies ≡ copies
+unfolding layoutOf layoutFor layoutBy
+layout-copies band modulation copies coded = refl
+
 -- ---- by one computed test over bands and copy counts
 
 -- the carriers of a group
