@@ -9,14 +9,18 @@ use native.Mathlib.Omega.{arith}
 use native.Mathlib.Numerals.{add-one}
 use borrow.Author.Tests.{not-true, not-false}
 use lib.Dec.{eqb, leb}
-use lib.ListN.{getD}
+use lib.ListN.{length, getD, length-replicate}
 use Rattle.bits.specs.Ranges.{allBelow}
 use Rattle.refusal.specs.Report.{Report, number, values}
 use Rattle.record.specs.declared.Record.{Record}
 use Rattle.record.specs.declared.Given.{Given}
-use Rattle.record.specs.Expected.{holds, compared}
+use Rattle.record.specs.Expected.{most, holds, compared}
 
 -- ---- outputs
+
+pub length-most : {A : Type 0} (n : ℕ) (a : A) → n ≡ length (most n a)
+unfolding most
+length-most n a = sym (length-replicate n a)
 
 -- a test that fails at one number fails over the range
 fails : (n i : ℕ) (t : ℕ → Bool) → i < n → t i ≡ false → allBelow n t ≡ false

@@ -18,9 +18,16 @@ byteAt bytes i = cond (ltb i (length bytes)) (getD bytes i 0) 165
 abbrev pub wordAt : List ℕ → ℕ → ℕ
 wordAt bytes at = cond (ltb (length bytes) (at + 8)) 11936128518282651045 (field bytes (8 * at) 64)
 
--- ten thousand untouched elements, the most of an output
-unfoldable pub most : {A : Type 0} → A → List A
-most a = replicate 10000 a
+-- the most bytes of an output, and the most words or floats: a card has ten fields and a point two coordinates
+abbrev pub mostBytes : ℕ
+mostBytes = 131072
+
+abbrev pub mostWords : ℕ
+mostWords = 1000
+
+-- n untouched elements, the most of an output
+unfoldable pub most : {A : Type 0} → ℕ → A → List A
+most n a = replicate n a
 
 -- a float is no NaN, and has the bits
 abbrev pub hasBits : Float → ℕ → Bool

@@ -9,15 +9,18 @@ ghost use lib.Dec.{eqb};
 ghost use lib.Ieee.{nanBits, ofBits, binary64};
 ghost use lib.ListN.{length, take};
 ghost use Rattle.refusal.specs.Report.{answer};
-ghost use Rattle.record.specs.Expected.{byteAt, most, wordAt, hasBits, sameByte, sameWord, sameFloat, holdsBytes, holdsWords, holdsFloats, compared as comparedWith};
+ghost use Rattle.record.specs.Expected.{byteAt, most, mostBytes, mostWords, wordAt, hasBits, sameByte, sameWord, sameFloat, holdsBytes, holdsWords, holdsFloats, compared as comparedWith};
 
 // What each byte of an output is before a call, and eight of them.
 pub const UNTOUCHED: u8 = 0xA5;
 
 pub const UNTOUCHED_WORD: u64 = 0xA5A5A5A5A5A5A5A5;
 
-// The most elements of an output.
-pub const MOST: usize = 10000;
+// The most bytes of an output: the longest list of items, and room to spare (D27).
+pub const MOST_BYTES: usize = 131072;
+
+// The most words or floats of an output: a card has ten fields and a point two coordinates, and no answer changes with more room.
+pub const MOST_WORDS: usize = 1000;
 
 // A record without its bytes: the call, the room of the output, and the expected number and value.
 pub struct Record {
@@ -84,22 +87,22 @@ pub fn float_of(bits: u64) -> f64
 }
 
 // Untouched outputs of bytes, words and floats.
-pub fn untouched_bytes() -> [u8; MOST]
-    ensures { λ r. ⌜ (r ≡ most 165) × (10000 ≡ length r) ⌝ }
+pub fn untouched_bytes() -> [u8; MOST_BYTES]
+    ensures { λ r. ⌜ (r ≡ most mostBytes 165) × (mostBytes ≡ length r) ⌝ }
 {
-    [UNTOUCHED; MOST]
+    [UNTOUCHED; MOST_BYTES]
 }
 
-pub fn untouched_words() -> [u64; MOST]
-    ensures { λ r. ⌜ (r ≡ most 11936128518282651045) × (10000 ≡ length r) ⌝ }
+pub fn untouched_words() -> [u64; MOST_WORDS]
+    ensures { λ r. ⌜ (r ≡ most mostWords 11936128518282651045) × (mostWords ≡ length r) ⌝ }
 {
-    [UNTOUCHED_WORD; MOST]
+    [UNTOUCHED_WORD; MOST_WORDS]
 }
 
-pub fn untouched_floats() -> [f64; MOST]
-    ensures { λ r. ⌜ (r ≡ most (ofBits binary64 11936128518282651045)) × (10000 ≡ length r) ⌝ }
+pub fn untouched_floats() -> [f64; MOST_WORDS]
+    ensures { λ r. ⌜ (r ≡ most mostWords (ofBits binary64 11936128518282651045)) × (mostWords ≡ length r) ⌝ }
 {
-    [float_of(UNTOUCHED_WORD); MOST]
+    [float_of(UNTOUCHED_WORD); MOST_WORDS]
 }
 
 // Whether a float is no NaN, and has some bits.

@@ -16,7 +16,7 @@ use Rattle.frame_control.specs.Entries.{send as frameSend, read as frameRead}
 use Rattle.payload.specs.Entries.{send as payloadSend, read as payloadRead}
 use Rattle.record.specs.declared.Record.{Record}
 use Rattle.record.specs.declared.Given.{Given}
-use Rattle.record.specs.Expected.{byteAt, wordAt, most, holdsBytes, holdsWords, holdsFloats, compared}
+use Rattle.record.specs.Expected.{byteAt, wordAt, most, mostBytes, mostWords, holdsBytes, holdsWords, holdsFloats, compared}
 
 -- the card whose fields are some words
 unfoldable pub cardIn : List ℕ → Card
@@ -55,16 +55,16 @@ bytesOutcome call card input out =
 abbrev pub judged : {B : Type 0} → Record → Outcome ℕ B → (B → Bool) → Given
 judged r o held = compared r (o .report) (held (o .out))
 
--- the room of a record, at most ten thousand elements, and an untouched output of so many
-abbrev pub room : Record → ℕ
-room r = cond (ltb (r .room) 10000) (r .room) 10000
+-- the room of a record, at most n elements, and an untouched output of so many
+abbrev pub room : ℕ → Record → ℕ
+room n r = cond (ltb (r .room) n) (r .room) n
 
-abbrev pub untouched : {A : Type 0} → Record → A → List A
-untouched r a = take (room r) (most a)
+abbrev pub untouched : {A : Type 0} → ℕ → Record → A → List A
+untouched n r a = take (room n r) (most n a)
 
 -- what the call of a record gives, by the card, the input and the expected output that stand in the record
 unfoldable pub given : Record → List ℕ → List ℕ → List ℕ → Given
 given r card input expected =
-    cond (eqb (r .call) 4) (judged r (readFields card (untouched r 11936128518282651045)) (λ out. holdsWords out expected))
-    (cond (eqb (r .call) 6) (judged r (mapOutcome (byteAt card 0) input (untouched r (ofBits binary64 11936128518282651045))) (λ out. holdsFloats out expected))
-    (judged r (bytesOutcome (r .call) card input (untouched r 165)) (λ out. holdsBytes out expected)))
+    cond (eqb (r .call) 4) (judged r (readFields card (untouched mostWords r 11936128518282651045)) (λ out. holdsWords out expected))
+    (cond (eqb (r .call) 6) (judged r (mapOutcome (byteAt card 0) input (untouched mostWords r (ofBits binary64 11936128518282651045))) (λ out. holdsFloats out expected))
+    (judged r (bytesOutcome (r .call) card input (untouched mostBytes r 165)) (λ out. holdsBytes out expected)))

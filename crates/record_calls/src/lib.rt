@@ -89,21 +89,21 @@ fn point_given(r: Record, card: &[u8], input: &[u8], expected: &[u8], out: &mut 
 }
 
 // The room of a record, at most that of an untouched output.
-fn room_of(r: Record) -> usize
-    ensures { λ n. ⌜ (n ≡ room r) × (n ≤ 10000) ⌝ }
+fn room_of(r: Record, most: usize) -> usize
+    ensures { λ n. ⌜ (n ≡ room most r) × (n ≤ most) ⌝ }
 {
     let room = r.room as usize;
-    if room < record::MOST {
+    if room < most {
         return room;
     }
-    record::MOST
+    most
 }
 
 // What a record's call gives on an untouched output.
 pub fn run(r: Record, card: &[u8], input: &[u8], expected: &[u8]) -> Given
     ensures { λ g. ⌜ g ≡ given r (now (card .entry)) (now (input .entry)) (now (expected .entry)) ⌝ }
 {
-    let room = room_of(r);
+    let room = room_of(r, record::MOST_WORDS);
     if r.call == 4 {
         let mut out = record::untouched_words();
         return fields_given(r, card, expected, &mut out[..room]);
@@ -112,6 +112,7 @@ pub fn run(r: Record, card: &[u8], input: &[u8], expected: &[u8]) -> Given
         let mut out = record::untouched_floats();
         return point_given(r, card, input, expected, &mut out[..room]);
     }
+    let room = room_of(r, record::MOST_BYTES);
     let mut out = record::untouched_bytes();
     bytes_given(r, card, input, expected, &mut out[..room])
 }

@@ -2,7 +2,7 @@
 //
 // A record is a label, the call, the card, the input, the room of the output, the expected number, the expected value and the expected
 // output. Numbers are big endian. A label stands behind its length, of one byte; a card, an input and an expected output stand behind
-// theirs, of two. `record_calls` says which number is which call.
+// theirs, of four, as long as the room. `record_calls` says which number is which call.
 //
 // Internal: nothing here is a public entry. What the system's calls do is assumed, as in every program: of what is read contracts say
 // bounds alone, and of what is written nothing (D24).
@@ -65,11 +65,11 @@ fn read_bytes(fd: i32, count: u64, out: &mut [u8]) -> Number
     Number::Of(count)
 }
 
-// Reads a length of two bytes, and as many bytes.
+// Reads a length of four bytes, and as many bytes.
 fn read_part(fd: i32, out: &mut [u8]) -> Number
     ensures { λ r. ⌜ AtMost (length (now (out .entry))) r ⌝ }
 {
-    let Number::Of(count) = read_number(fd, 2) else {
+    let Number::Of(count) = read_number(fd, 4) else {
         return Number::Missing;
     };
     read_bytes(fd, count, out)
@@ -103,7 +103,7 @@ fn read_rest(
     let Number::Of(input_length) = read_part(fd, input) else {
         return Next::Broken;
     };
-    let Number::Of(room) = read_number(fd, 2) else {
+    let Number::Of(room) = read_number(fd, 4) else {
         return Next::Broken;
     };
     let Number::Of(number) = read_number(fd, 1) else {

@@ -10,7 +10,7 @@ use record_file::Lengths;
 use record_file::Next;
 
 // The most bytes of an input or an expected output in a record.
-const MOST: usize = 10000;
+const MOST: usize = 131072;
 
 // No more records are read from a file.
 const MOST_RECORDS: u64 = 1000000;

@@ -43,6 +43,9 @@ returns-2 : tie.Need-returns-2
 unfolding given
 returns-2 c = simp (ne-eqb _ _ (c .before .before .before .before .before .before .if1 .left), eq-eqb _ _ (c .before .before .before .before .if2 .taken)) (cc)
 
+room-of-requires-2 : tie.Need-room-of-requires-2
+room-of-requires-2 c κs = search needs
+
 untouched-bytes-requires : tie.Need-untouched-bytes-requires
 untouched-bytes-requires c κs = search needs
 
@@ -57,7 +60,7 @@ bytes-given-requires c κs = search needs
 
 returns-3 : tie.Need-returns-3
 unfolding given
-returns-3 c = simp (ne-eqb _ _ (c .before .before .before .before .before .before .if1 .left), ne-eqb _ _ (c .before .before .before .before .if2 .left)) (cc)
+returns-3 c = simp (ne-eqb _ _ (c .before .before .before .before .before .before .before .if1 .left), ne-eqb _ _ (c .before .before .before .before .before .if2 .left)) (cc)
 
 pub run-spec : {M : Type 1} → statement M
 run-spec =
@@ -74,6 +77,7 @@ run-spec =
     slice-aggregate-point-given
     point-given-requires
     returns-2
+    room-of-requires-2
     untouched-bytes-requires
     array-borrow-prefix-out-3
     slice-aggregate-bytes-given

@@ -8,7 +8,7 @@ use Rattle.vectors.proofs.run.Tie as tie
 
 abbrev Inv-loop : tie.InvT-loop
 Inv-loop fd records₀ mismatches₀ input₀ expected₀ k₀ t7 records mismatches input expected k =
-    (length input ≡ 10000) × (length expected ≡ 10000) × (k ≤ 1000000)
+    (length input ≡ 131072) × (length expected ≡ 131072) × (k ≤ 1000000)
 
 abbrev μ-loop : tie.MeasureT-loop
 μ-loop fd records₀ mismatches₀ input₀ expected₀ k₀ t7 records mismatches input expected k = 1000000 - k
