@@ -18,7 +18,7 @@ byteAt bytes i = cond (ltb i (length bytes)) (getD bytes i 0) 165
 abbrev pub wordAt : List ℕ → ℕ → ℕ
 wordAt bytes at = cond (ltb (length bytes) (at + 8)) 11936128518282651045 (field bytes (8 * at) 64)
 
--- the most bytes of an output, and the most words or floats: a card has ten fields and a point two coordinates
+-- the most bytes of an input or an output, and the most words or floats of an output: a card has ten fields and a point two coordinates
 abbrev pub mostBytes : ℕ
 mostBytes = 131072
 

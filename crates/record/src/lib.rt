@@ -16,7 +16,7 @@ pub const UNTOUCHED: u8 = 0xA5;
 
 pub const UNTOUCHED_WORD: u64 = 0xA5A5A5A5A5A5A5A5;
 
-// The most bytes of an output: the longest list of items, and room to spare (D27).
+// The most bytes of an input or an output: the longest list of items, and room to spare (D27).
 pub const MOST_BYTES: usize = 131072;
 
 // The most words or floats of an output: a card has ten fields and a point two coordinates, and no answer changes with more room.

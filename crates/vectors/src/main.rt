@@ -9,9 +9,6 @@ use record::Record;
 use record_file::Lengths;
 use record_file::Next;
 
-// The most bytes of an input or an expected output in a record.
-const MOST: usize = 131072;
-
 // No more records are read from a file.
 const MOST_RECORDS: u64 = 1000000;
 
@@ -90,10 +87,10 @@ fn run_record(
     }
 }
 
-// Runs the records of a file.
+// Runs the records of a file. An input or an expected output has as many bytes as an output at most.
 fn run(fd: i32, records: &mut [u64; 11], mismatches: &mut [u64; 11]) {
-    let mut input = [0u8; MOST];
-    let mut expected = [0u8; MOST];
+    let mut input = record::untouched_bytes();
+    let mut expected = record::untouched_bytes();
     let mut k: u64 = 0;
     while k < MOST_RECORDS {
         if !run_record(fd, k, &mut input, &mut expected, records, mismatches) {

@@ -13,6 +13,12 @@ Inv-loop fd records₀ mismatches₀ input₀ expected₀ k₀ t7 records mismat
 abbrev μ-loop : tie.MeasureT-loop
 μ-loop fd records₀ mismatches₀ input₀ expected₀ k₀ t7 records mismatches input expected k = 1000000 - k
 
+untouched-bytes-requires : tie.Need-untouched-bytes-requires Inv-loop μ-loop
+untouched-bytes-requires c κs = search needs
+
+untouched-bytes-requires-2 : tie.Need-untouched-bytes-requires-2 Inv-loop μ-loop
+untouched-bytes-requires-2 c κs = search needs
+
 loop-holds : tie.Need-loop-holds Inv-loop μ-loop
 loop-holds c = search needs
 
@@ -52,6 +58,8 @@ run-spec =
     (tie.spec
     Inv-loop
     μ-loop
+    untouched-bytes-requires
+    untouched-bytes-requires-2
     loop-holds
     slice-aggregate-run-record
     slice-aggregate-run-record-2
