@@ -41,6 +41,13 @@ pub fn called_with(arguments: usize, usage: &[u8]) -> bool {
     true
 }
 
+// Memory for a file. Of a file the first 131,072 bytes are read, which is more than any entry takes (D19).
+pub fn file_buffer() -> [u8; 131072]
+    ensures { λ r. ⌜ 131072 ≡ length r ⌝ }
+{
+    [0u8; 131072]
+}
+
 // The start of the file that argument i names, into `buf`: how many bytes there are. A file that is missing or cannot be opened counts
 // as empty, and standard error says why.
 pub fn read_file(i: usize, buf: &mut [u8]) -> usize

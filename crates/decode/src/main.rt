@@ -1,7 +1,5 @@
 // Writes the word or the block of received items as a line of hex: `decode CARD ITEMS`, both names of files, an item a byte. A refusal
 // is written as two lines, its number and what comes with it.
-//
-// Of a file the first 16,384 bytes are read, which is more than any entry takes.
 use refusal::Answer;
 
 // The first n bytes as a line of hex.
@@ -32,9 +30,9 @@ fn main() {
     ) {
         return;
     }
-    let mut card = [0u8; 16384];
+    let mut card = command::file_buffer();
     let card_len = command::read_file(1, &mut card);
-    let mut items = [0u8; 16384];
+    let mut items = command::file_buffer();
     let items_len = command::read_file(2, &mut items);
     decode(&card[..card_len], &items[..items_len]);
 }
