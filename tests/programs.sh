@@ -1,6 +1,7 @@
 #!/usr/bin/env bash
-# The programs `encode`, `decode` and `print_card` write what the same programs over the reference write, in every mode, on bad files
-# and on refused cards, each with a stack of 128 KB. They are taken from target/bin, where `rt check` or `rt ci` put them.
+# The programs `encode`, `decode` and `print_card` write what the same programs over the reference write, in every mode, with every copy
+# count, on bad files and on refused cards, each with a stack of 512 KB. They are taken from target/bin, where `rt check` or `rt ci` put
+# them.
 set -eu
 cd "$(dirname "$0")/.."
 cargo build --quiet --release --offline --manifest-path reference/Cargo.toml
@@ -29,20 +30,21 @@ second=$((3 << 20))
 core() {
   local program=$1
   shift
-  (ulimit -S -s 128 && "$core/$program" "$@") 2> told
+  (ulimit -S -s 512 && "$core/$program" "$@") 2> told
 }
 
-# same PROGRAM ARGUMENT..: what both write on standard output goes to `written`.
+# same PROGRAM ARGUMENT..: what both write on standard output goes to `written`. Of the file `huge` the programs take the start, `taken`,
+# and the reference is given that.
 same() {
   core "$@" > written < input
-  "$reference" "$@" > expected < input
+  "$reference" "${@/#huge/taken}" > expected < input
   cmp written expected
   runs=$((runs + 1))
 }
 
-# mode BYTES BAND KIND RATE MODULATION: a block there and back, and what is refused on the way.
-mode() {
-  card "$2" "$3" "$4" "$5" 1095 > card
+# there_and_back BYTES: a block sent and read by `card`, also with the first quarter of its items lost, and what is refused on the way.
+there_and_back() {
+  local quarter
   seq 1 400 | head -c "$1" > block
   cp card input
   same print_card
@@ -55,8 +57,17 @@ mode() {
   same decode card illegal
   tr '\000\001' '\002' < items > lost
   same decode card lost
+  quarter=$(($(wc -c < items) / 4))
+  { head -c "$quarter" lost; tail -c +$((quarter + 1)) items; } > partly
+  same decode card partly
   tr '\000\001' '\001\000' < items > inverted
   same decode card inverted
+}
+
+# mode BYTES BAND KIND RATE MODULATION: a block with a card of version 1, and the same items with one of version 2.
+mode() {
+  card "$2" "$3" "$4" "$5" 1095 > card
+  there_and_back "$1"
   card "$2" "$3" "$4" "$5" 1095 "$second" 0 > card
   cp card input
   same print_card
@@ -75,6 +86,42 @@ for band in 0 1 2 3; do
   done
   mode 520 $band 4 1 1
 done
+
+# Every copy count, by its code, on every band.
+for copies in 0 1 2 3 4 5; do
+  for band in 0 1 2 3; do
+    for mode in '1 0 0' '2 0 2' '4 1 1'; do
+      card $band $mode 1095 "$second" $((copies << 3)) > card
+      there_and_back "${sizes[${mode%% *}]}"
+    done
+  done
+done
+
+# More copies or blocks than are defined, and any but one of frame control.
+for fourth in 8 40 48 56 64; do
+  for mode in '0 0 1' '4 0 1'; do
+    card 2 $mode 1095 "$second" "$fourth" > card
+    same encode card block
+    same decode card items
+  done
+done
+
+# The longest list of items, and longer files: one item more, and more than is taken of a file.
+head -c 101921 /dev/zero > more
+head -c 200000 /dev/zero > huge
+head -c 131072 huge > taken
+for copies in 5 0; do
+  card 3 4 0 2 1095 "$second" $((copies << 3)) > card
+  there_and_back 520
+  for file in more taken huge; do
+    for program in encode decode; do
+      for files in "$file block" "card $file"; do
+        same "$program" $files
+      done
+    done
+  done
+done
+grep -q '^value 131072$' written
 
 # Files that are missing, empty, a folder or too long. Of a missing one standard error says so.
 card 0 0 0 1 1095 > card
