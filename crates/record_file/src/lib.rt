@@ -2,7 +2,8 @@
 //
 // A record is a label, the call, the card, the input, the room of the output, the expected number, the expected value and the expected
 // output. Numbers are big endian. A label stands behind its length, of one byte; a card, an input and an expected output stand behind
-// theirs, of four, as long as the room. `record_calls` says which number is which call.
+// theirs, of four. The room has four bytes, the value eight, the call and the expected number one each. `record_calls` says which number
+// is which call.
 //
 // Internal: nothing here is a public entry. What the system's calls do is assumed, as in every program: of what is read contracts say
 // bounds alone, and of what is written nothing (D24).
