@@ -161,6 +161,7 @@ unfolding layoutOf layoutFor layoutBy
 pad-within band kind rate modulation copies is other counts = mode-pads band kind rate modulation copies is (omega (arith, other)) counts
 
 pub card-pad-within : CardPadWithin
+unfolding layoutOf layoutFor layoutBy
 card-pad-within card good =
     let c = cardOf card in
     let served = gate-served 1 4 card c good in (
@@ -172,6 +173,7 @@ pub payload-copies : PayloadCopies
 payload-copies card good b h = (copies-of card good b h, copies-at-least card good b h, copies-at-most card good b h)
 
 pub sent-once : SentOnce
+unfolding layoutOf layoutFor layoutBy
 sent-once card good one n h =
     let c = cardOf card in
     let s = layout-served c (gate-served 1 4 card c good) .sound in

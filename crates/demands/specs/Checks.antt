@@ -1,14 +1,14 @@
--- The bench checks of paper 01 that are marked P, and of paper 02 copies on its bands and the second card: what the rules give beside what
--- the papers print, under one claim. Assumes nothing.
-use mathlib.Core.List.{List, [], _∷_}
+-- The bench checks of paper 01 that are marked P, and of paper 02 copies on its bands, the second card and the copied payload (the shifts
+-- that source 000 lists, and a worked example): what the rules give beside what is printed, under one claim. Assumes nothing.
+use mathlib.Core.List.{List, [], _∷_, _++_}
 use mathlib.Core.Path.{_≡_, refl}
 use Prim.{Unit}
-use Prim.Native.Nat.{ℕ, _+_, _-_, _*_}
+use Prim.Native.Nat.{ℕ, _+_, _-_, _*_, _/_}
 use lib.ListN.{replicate}
 use Rattle.bits.specs.Bits.{bitOf, pack, byteOf, field, bytesOf}
 use Rattle.bits.specs.Lists.{tabulate, lowest}
 use Rattle.bits.specs.Sums.{sum, count}
-use Rattle.refusal.specs.Report.{Report, done, refused}
+use Rattle.refusal.specs.Report.{Report, done, refused, number}
 use Rattle.card.specs.declared.Card.{Card}
 use Rattle.card.specs.Card.{fieldsOf, cardOf, paddingOf, copyCode, bytesOfCard}
 use Rattle.card.specs.Modes.{definedMode}
@@ -19,12 +19,16 @@ use Rattle.text.specs.Text.{ascii, places, decimal, binary}
 use Rattle.scrambler.specs.Scrambler.{feedback, shifted, afterShifts, scramblerBit, allOnes}
 use Rattle.constituent.specs.Encoder.{plus, startOf}
 use Rattle.pair_interleaver.specs.Interleave.{sourcePairBy, sourcePair}
+use Rattle.interleaver.specs.Rows.{passLength, pass, passes, passRow}
 use Rattle.interleaver.specs.Source.{column}
+use Rattle.address_interleaver.specs.Addresses.{outAddr}
 use Rattle.votes.specs.Votes.{carries, copies}
 use Rattle.bands.specs.Bands.{offsets, carriers}
 use Rattle.diversity.specs.Lanes.{laneBit, carrierCount, itemCount}
 use Rattle.diversity.specs.Copies.{copiesOf, copiesOn}
-use Rattle.payload_layout.specs.Layouts.{symbolBits, symbolCount, padBits, layoutFor, layoutOf}
+use Rattle.payload_layout.specs.declared.Layout.{Layout}
+use Rattle.payload_layout.specs.Layouts.{spanOf, usedOf, groupOf, lastSymbolBits, lastGroupBits, padBits, shiftRun, shiftStep, layoutBy, layoutFor, layoutOf, items, usedCarriers, groupBits}
+use Rattle.payload_layout.specs.Items.{padded, groupOrder, copyOrder, copiedBit, used, carried}
 
 -- a report of a card as numbers: 0 and its fields, or the refusal and its values
 abbrev numbers : Report Card → List ℕ
@@ -48,6 +52,21 @@ exampleCard = 0x12 ∷ 0x58 ∷ 0x8E ∷ 0x00 ∷ 0x20 ∷ 0x00 ∷ 0x00 ∷ 0x0
 -- the same card in version 2
 abbrev secondCard : List ℕ
 secondCard = 0x22 ∷ 0x58 ∷ 0x8E ∷ 0x00 ∷ 0x00 ∷ 0x20 ∷ 0x00 ∷ 0x00 ∷ 0x00 ∷ 0x00 ∷ 0x00 ∷ 0x01 ∷ []
+
+-- that card with two copies
+abbrev copiedCard : List ℕ
+copiedCard = 0x22 ∷ 0x58 ∷ 0x8E ∷ 0x08 ∷ 0x00 ∷ 0x20 ∷ 0x00 ∷ 0x00 ∷ 0x00 ∷ 0x00 ∷ 0x00 ∷ 0x01 ∷ []
+
+-- GroupShiftNum, where the last symbol's bits fill so many groups
+abbrev shiftsOf : ℕ → ℕ → List ℕ
+shiftsOf copies groups = tabulate copies (λ k. k / shiftRun copies groups 1)
+
+-- 72 bytes twice as QPSK on band 0, and the first bit on a place of a symbol, counted from 1
+abbrev twice : Layout
+twice = layoutOf 0 1 2 1152
+
+abbrev firstBit : ℕ → ℕ → ℕ
+firstBit symbol place = carried twice (2 * ((symbol - 1) * 411 + place))
 
 -- what the rule gives, and what the paper prints
 abbrev pub checks : List (List ℕ × List ℕ)
@@ -88,7 +107,28 @@ checks =
     ∷ (moveCard exampleCard 2 (replicate 12 0) .out, secondCard)
     ∷ (moveCard secondCard 1 (replicate 11 0) .out, exampleCard)
     -- P12: band 0, QPSK, 4,680 coded bits: symbols and pad
-    ∷ (layoutOf 0 1 4680 .symbols ∷ layoutOf 0 1 4680 .pad ∷ [], 6 ∷ 252 ∷ [])
+    ∷ (layoutOf 0 1 1 4680 .symbols ∷ layoutOf 0 1 1 4680 .pad ∷ [], 6 ∷ 252 ∷ [])
+    -- version 1 can't say two copies
+    ∷ (number (moveCard copiedCard 1 (replicate 11 0) .report) ∷ [], 11 ∷ [])
+    -- the shifts as 5.1.5.5.4 lists them
+    ∷ (shiftsOf 2 1 ++ shiftsOf 2 2, 0 ∷ 0 ∷ 0 ∷ 1 ∷ [])
+    ∷ (shiftsOf 4 1 ++ shiftsOf 4 2, 0 ∷ 0 ∷ 0 ∷ 0 ∷ 0 ∷ 0 ∷ 1 ∷ 1 ∷ [])
+    ∷ (shiftsOf 4 3 ++ shiftsOf 4 4, 0 ∷ 0 ∷ 0 ∷ 0 ∷ 0 ∷ 1 ∷ 2 ∷ 3 ∷ [])
+    ∷ (shiftsOf 5 4 ++ shiftsOf 5 5, 0 ∷ 0 ∷ 0 ∷ 0 ∷ 0 ∷ 0 ∷ 1 ∷ 2 ∷ 3 ∷ 4 ∷ [])
+    ∷ (shiftsOf 7 6 ++ shiftsOf 7 7, 0 ∷ 0 ∷ 0 ∷ 0 ∷ 0 ∷ 0 ∷ 0 ∷ 0 ∷ 1 ∷ 2 ∷ 3 ∷ 4 ∷ 5 ∷ 6 ∷ [])
+    ∷ (
+      shiftsOf 11 10 ++ shiftsOf 11 11,
+      0 ∷ 0 ∷ 0 ∷ 0 ∷ 0 ∷ 0 ∷ 0 ∷ 0 ∷ 0 ∷ 0 ∷ 0 ∷ 0 ∷ 1 ∷ 2 ∷ 3 ∷ 4 ∷ 5 ∷ 6 ∷ 7 ∷ 8 ∷ 9 ∷ 10 ∷ [],
+    )
+    -- a worked example (D27): used carriers, bits of a group, pad, symbols and items; and bits on places of symbols 1 and 2
+    ∷ (
+      usedCarriers twice ∷ groupBits twice ∷ twice .pad ∷ twice .symbols ∷ items twice ∷ [],
+      408 ∷ 408 ∷ 72 ∷ 3 ∷ 2466 ∷ [],
+    )
+    ∷ (
+      firstBit 1 0 ∷ firstBit 1 1 ∷ firstBit 1 26 ∷ firstBit 1 51 ∷ firstBit 1 204 ∷ firstBit 2 204 ∷ [],
+      0 ∷ 4 ∷ 2 ∷ 172 ∷ 408 ∷ 92 ∷ [],
+    )
     ∷ []
 
 -- each row agrees
@@ -97,5 +137,5 @@ Agree [] = Unit {0}
 Agree (row ∷ rows) = (row .0 ≡ row .1) × Agree rows
 
 pub checks-agree : Agree checks
-unfolding moveCard cardText cardLines modeLines countLines decimal binary places lowest tabulate readCard cardOf paddingOf copyCode bytesOfCard bytesOf definedMode field pack byteOf bitOf feedback shifted afterShifts scramblerBit startOf sourcePair offsets carriers carrierCount itemCount laneBit carries copies copiesOf sum count sourcePairBy plus layoutOf layoutFor padBits symbolCount symbolBits
-checks-agree = (refl, (refl, (refl, (refl, (refl, (refl, (refl, (refl, (refl, (refl, (refl, (refl, (refl, (refl, (refl, (refl, (refl, (refl, (refl, (refl, tt))))))))))))))))))))
+unfolding moveCard cardText cardLines modeLines countLines decimal binary places lowest tabulate readCard cardOf paddingOf copyCode bytesOfCard bytesOf definedMode field pack byteOf bitOf feedback shifted afterShifts scramblerBit startOf sourcePair offsets carriers carrierCount itemCount laneBit carries copies copiesOf sum count sourcePairBy plus layoutOf layoutFor layoutBy spanOf usedOf groupOf lastSymbolBits lastGroupBits padBits shiftRun shiftStep items padded groupOrder copyOrder copiedBit carried outAddr passRow passes pass passLength
+checks-agree = (refl, (refl, (refl, (refl, (refl, (refl, (refl, (refl, (refl, (refl, (refl, (refl, (refl, (refl, (refl, (refl, (refl, (refl, (refl, (refl, (refl, (refl, (refl, (refl, (refl, (refl, (refl, (refl, (refl, tt)))))))))))))))))))))))))))))
