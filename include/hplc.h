@@ -34,7 +34,7 @@ extern "C" {
 
 /* The version of this interface. hplc_version() gives that of the library: the same number where both belong together. */
 #define HPLC_VERSION_MAJOR 3
-#define HPLC_VERSION_MINOR 0
+#define HPLC_VERSION_MINOR 1
 #define HPLC_VERSION_PATCH 0
 #define HPLC_VERSION (HPLC_VERSION_MAJOR * 10000 + HPLC_VERSION_MINOR * 100 + HPLC_VERSION_PATCH)
 
@@ -51,7 +51,7 @@ enum hplc_number {
     HPLC_REFUSED_CARD_VERSION = 2,
     /* The card's version and its length disagree; 0. */
     HPLC_REFUSED_VERSION_LENGTH = 10,
-    /* The mode is not defined, or not served by this call; 0. */
+    /* The mode is not defined, or not served by this call; 0. So are more than one block so far, and for frame control more than one copy. */
     HPLC_REFUSED_MODE = 3,
     /* An input's length, or a place or sub-carrier in a band, is wrong; that number. */
     HPLC_REFUSED_LENGTH = 4,
@@ -63,7 +63,7 @@ enum hplc_number {
     HPLC_REFUSED_MAJORITY = 7,
     /* Parity disagrees; the count of kept parity bits that disagree. */
     HPLC_REFUSED_PARITY = 8,
-    /* Version 1 cannot say the block count and the copy count; 0. No card that is defined today gives this. */
+    /* Version 1 cannot say the block count and the copy count; 0. A payload card with more than one copy gives this. */
     HPLC_REFUSED_COUNTS = 11
 };
 
@@ -81,7 +81,7 @@ enum hplc_number {
 #define HPLC_FC_ITEMS_BAND_2 2136
 #define HPLC_FC_ITEMS_BAND_3 1176
 #define HPLC_PAYLOAD_BYTES_MAX 520
-#define HPLC_PAYLOAD_ITEMS_MAX 9864
+#define HPLC_PAYLOAD_ITEMS_MAX 101920
 
 /*
  * Stack of a call in bytes, on x86-64: measured over every mode (tests/stack.sh), not proved. CARD is of each call about cards, POINT of
@@ -106,7 +106,8 @@ uint32_t hplc_card_read(const uint8_t *card, size_t card_len, uint64_t *fields, 
 
 /*
  * A job card from its fields: HPLC_CARD_BYTES of version 1 or HPLC_CARD_2_BYTES of version 2 into `out`. A field that does not fit its bits
- * is refused by 2 (version, spare) or 3, and so far more than one block or one copy by 3. Refusals 2, 3, 5 with the version's length, 11.
+ * is refused by 2 (version, spare) or 3, and more than one block by 3 so far. The copies of a payload are 1, 2, 4, 5, 7 or 11, and those of
+ * a frame control 1; another count is 3. Refusals 2, 3, 5 with the version's length, 11.
  */
 uint32_t hplc_card_write(uint64_t version, uint64_t band, uint64_t kind, uint64_t rate, uint64_t modulation, uint64_t taps,
                          uint64_t spare, uint64_t serial, uint64_t blocks, uint64_t copies, uint8_t *out, size_t out_len,
@@ -163,12 +164,17 @@ uint32_t hplc_fc_read(const uint8_t *card, size_t card_len, const uint8_t *items
 
 /*
  * The items of a payload block of 72, 136, 264 or 520 bytes by the card's kind: 1, 2 or 4 items a carrier by its modulation, by
- * symbol, place and bit; at most HPLC_PAYLOAD_ITEMS_MAX. Refusals 1, 2, 10, 3 (a frame-control card too), 4, 5.
+ * symbol, place and bit, copied as often as the card says; at most HPLC_PAYLOAD_ITEMS_MAX. With more than one copy the top carriers of a
+ * band may carry nothing, and their items are 0. Refusals 1, 2, 10, 3 (a frame-control card too), 4, 5.
  */
 uint32_t hplc_payload_send(const uint8_t *card, size_t card_len, const uint8_t *block, size_t block_len, uint8_t *items,
                            size_t items_len, uint64_t value[2]);
 
-/* The block of a payload from all its received items. Refusals 1, 2, 10, 3 (a frame-control card too), 4, 5, 6, 7, 8. */
+/*
+ * The block of a payload from all its received items. Where for each coded bit twice its wrong copies plus its lost ones is below the card's
+ * copy count, it is the block that was sent. Items on carriers that carry nothing must be legal and have no vote. Refusals 1, 2, 10, 3 (a
+ * frame-control card too), 4, 5, 6, 7, 8.
+ */
 uint32_t hplc_payload_read(const uint8_t *card, size_t card_len, const uint8_t *items, size_t items_len, uint8_t *block,
                            size_t block_len, uint64_t value[2]);
 

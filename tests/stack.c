@@ -1,6 +1,6 @@
 /*
  * How much stack each call takes: the call runs on a stack of its own that was filled with a pattern, and what lost the pattern is
- * counted, over every defined mode and both versions of a card. Fails where a call takes more than include/hplc.h states, or where that states a good deal more.
+ * counted, over every defined mode and copy count and both versions of a card. Fails where a call takes more than include/hplc.h states, or where that states a good deal more.
  */
 #include <stdio.h>
 #include <string.h>
@@ -24,7 +24,7 @@ static uint64_t fields[HPLC_CARD_FIELDS];
 static uint64_t value[2];
 static double point[2];
 static size_t card_len, bytes_len, items_len;
-static uint64_t version;
+static uint64_t version, copies;
 static uint32_t number;
 
 static void nothing(void) {}
@@ -79,15 +79,15 @@ static size_t taken(void (*call)(void))
     return all < empty ? 0 : all - empty;
 }
 
-/* A card of the version that is looked at; whether there is one. */
+/* A card of the version and the copies that are looked at; whether there is one. */
 static int write_card(unsigned band, unsigned kind, unsigned rate, unsigned modulation)
 {
-    uint32_t n = hplc_card_write(version, band, kind, rate, modulation, 1095, 0, UINT64_MAX, 1, 1, card, sizeof card, value);
+    uint32_t n = hplc_card_write(version, band, kind, rate, modulation, 1095, 0, UINT64_MAX, 1, copies, card, sizeof card, value);
     card_len = (size_t)value[0];
     return n == HPLC_DONE;
 }
 
-/* The most that sending and reading take, over the modes of some kinds. */
+/* The most that sending and reading take, over the modes of some kinds with so many copies. */
 static void over_modes(unsigned first, unsigned last, void (*send)(void), void (*read)(void), size_t *sent, size_t *back)
 {
     static const size_t sizes[5] = {16, 72, 136, 264, 520};
@@ -122,11 +122,13 @@ int main(void)
     size_t frame_sent = 0, frame_back = 0, sent = 0, back = 0;
     size_t cards = 0, points, places;
     for (version = 1; version <= 2; version++) {
+        copies = 1;
         write_card(0, 4, 1, 1);
         cards = most(cards, most(taken(card_read), taken(card_write)));
         cards = most(cards, most(taken(card_move), taken(card_text)));
         over_modes(0, 0, fc_send, fc_read, &frame_sent, &frame_back);
-        over_modes(1, 4, payload_send, payload_read, &sent, &back);
+        for (copies = 1; copies <= 11; copies++)
+            over_modes(1, 4, payload_send, payload_read, &sent, &back);
     }
     points = most(taken(map), taken(slice));
     places = most(taken(place), taken(sub_carrier));

@@ -1,4 +1,5 @@
-//! The job card (01, "The job card"; 02, T-03; D26): bit-packed, most significant first.
+//! The job card (01, "The job card"; 02, T-03 and T-06; D26, D27): bit-packed, most significant
+//! first.
 //!
 //! The first three bytes hold, from the left, version 4 bits, band 2, kind 3, rate 1,
 //! modulation 2, taps 11 and spare 1. The last eight bytes hold the serial. That is all of a card
@@ -6,6 +7,7 @@
 //! padding 3.
 
 use crate::carriers::BANDS;
+use crate::copies::COPY_NUM;
 use crate::{big_endian, number, Report};
 
 /// The versions of the card. Each has a layout of its own.
@@ -139,9 +141,6 @@ impl Fields {
     }
 }
 
-/// The copy counts by their codes. Codes 6 and 7 say no count.
-const COPIES: [u64; 6] = [1, 2, 4, 5, 7, 11];
-
 /// The byte that says one block and one copy.
 const ONE_AND_ONE: u8 = 0;
 
@@ -150,14 +149,16 @@ const ONE_AND_ONE: u8 = 0;
 fn counts_byte(blocks: u64, copies: u64) -> Option<u8> {
     // Two bits hold blocks less one.
     let less_one = blocks.checked_sub(1).filter(|&less_one| less_one < 4)?;
-    let code = COPIES.iter().position(|&count| count == copies)?;
+    let code = COPY_NUM
+        .iter()
+        .position(|&count| u64::from(count) == copies)?;
     Some((less_one as u8) << 6 | (code as u8) << 3)
 }
 
 /// The copies that such a byte says; 0, which is no count of copies, for codes 6 and 7.
 fn copies_of(byte: u8) -> u64 {
     let code = usize::from(byte >> 3 & 7);
-    COPIES.get(code).copied().unwrap_or(0)
+    COPY_NUM.get(code).map_or(0, |&count| count.into())
 }
 
 /// "Defined modes": any of the bands; kind 0 to 4; modulation 0 to 2; rate 1 only with kind 4; kind
@@ -173,14 +174,11 @@ pub(crate) fn mode_is_defined(band: u64, kind: u64, rate: u64, modulation: u64) 
 
 /// The most blocks of a payload that are defined, until T-07 defines more.
 const DEFINED_BLOCKS: u64 = 1;
-/// The most copies of a payload that are defined, until T-06 defines more.
-const DEFINED_COPIES: u64 = 1;
 
 /// Whether the counts fit their bits and are defined. Kind 0 always needs one and one.
 fn counts_are_defined(kind: u64, blocks: u64, copies: u64) -> bool {
     counts_byte(blocks, copies).is_some()
         && blocks <= DEFINED_BLOCKS
-        && copies <= DEFINED_COPIES
         && (kind != 0 || (blocks, copies) == (1, 1))
 }
 
@@ -312,8 +310,7 @@ fn try_move(card: &[u8], version: u64, out: &mut [u8]) -> Result<usize, Report> 
 }
 
 /// Puts a card into the output, in the layout of its version: refused by 5 with the length, then by
-/// 11 where version 1 can't say the counts. Until more than one and one are defined, row 3 keeps
-/// all cards from 11 (D26).
+/// 11 where version 1 can't say the counts.
 fn put(card: &Card, out: &mut [u8]) -> Result<usize, Report> {
     let needed = card.version.bytes();
     let Some(front) = out.get_mut(..needed) else {
@@ -629,20 +626,29 @@ mod tests {
                     spare,
                     ..good
                 };
+                // Of a payload one block and copy codes 0 to 5, of frame control one and one.
+                let defined: &[u8] = match good.kind {
+                    0 => &[0x00],
+                    _ => &[0x00, 0x08, 0x10, 0x18, 0x20, 0x28],
+                };
                 for byte in 0..=255u8 {
                     let card = with_byte(&pack(&fields, Version::Two), 3, byte);
                     let expected = match (version, spare) {
                         (1, 0) => 10,
                         (2, 0) if byte % 8 != 0 => 2,
-                        // More than one block, more than one copy, or no count of copies.
-                        (2, 0) if byte != 0 => 3,
+                        (2, 0) if !defined.contains(&byte) => 3,
                         (2, 0) => 0,
                         _ => 2,
                     };
                     assert_eq!(number_of(&card), expected, "{card:02x?}");
-                    for asked in [1, 2] {
-                        assert_eq!(moved_to(ROOM, &card, asked).0.number, expected);
-                    }
+                    assert_eq!(moved_to(ROOM, &card, 2).0.number, expected);
+                    // Version 1 can't say more than one copy.
+                    let back = if expected == 0 && byte != 0 {
+                        11
+                    } else {
+                        expected
+                    };
+                    assert_eq!(moved_to(ROOM, &card, 1).0.number, back);
                     if expected > 0 {
                         assert_eq!(text(&card), format!("refused {expected}\n"));
                     }
@@ -652,7 +658,7 @@ mod tests {
     }
 
     #[test]
-    fn more_blocks_or_copies_are_three_when_written() {
+    fn counts_are_judged_when_written() {
         let large = [257, (1 << 32) + 1, u64::MAX];
         for good in [GOOD, OF_KIND_0] {
             for version in [1, 2] {
@@ -664,14 +670,21 @@ mod tests {
                             copies,
                             ..good
                         };
-                        let expected = if (blocks, copies) == (1, 1) { 0 } else { 3 };
+                        let expected = match (version, good.kind, blocks, copies) {
+                            (_, _, 1, 1) => 0,
+                            (1, 1.., 1, 2 | 4 | 5 | 7 | 11) => 11,
+                            (2, 1.., 1, 2 | 4 | 5 | 7 | 11) => 0,
+                            _ => 3,
+                        };
                         assert_eq!(written(fields), expected, "{fields:?}");
-                        if expected == 3 {
-                            // 3 goes before 5, and so before 11.
-                            assert_eq!(written_to(0, fields).0, Report::refused(3, 0));
-                            let spare = 1;
-                            assert_eq!(written(Fields { spare, ..fields }), 2);
-                        }
+                        // 3 goes before 5, and 5 before 11.
+                        let without_room = match expected {
+                            3 => Report::refused(3, 0),
+                            _ => Report::refused(5, 10 + version),
+                        };
+                        assert_eq!(written_to(0, fields).0, without_room);
+                        let spare = 1;
+                        assert_eq!(written(Fields { spare, ..fields }), 2);
                     }
                 }
             }
@@ -680,37 +693,54 @@ mod tests {
 
     #[test]
     fn eleven_is_last_and_for_version_1_alone() {
-        // No fields reach it, so it is asked of a card that none could say.
+        for (code, copies) in CODES.into_iter().skip(1) {
+            let second = Fields {
+                copies,
+                ..SECOND_EXAMPLE
+            };
+            let bytes = with_byte(&pack(&SECOND_EXAMPLE, Version::Two), 3, code * 8);
+            let first = Fields {
+                version: 1,
+                ..second
+            };
+            for room in 0..=ROOM {
+                let (to_first, to_second) = match room {
+                    ..11 => (Report::refused(5, 11), Report::refused(5, 12)),
+                    11 => (Report::refused(11, 0), Report::refused(5, 12)),
+                    _ => (Report::refused(11, 0), Report::done(12)),
+                };
+                assert_eq!(written_to(room, first).0, to_first);
+                assert_eq!(moved_to(room, &bytes, 1).0, to_first);
+                for (report, out) in [written_to(room, second), moved_to(room, &bytes, 2)] {
+                    assert_eq!(report, to_second);
+                    assert!(out.is_empty() || out == bytes);
+                }
+                assert_eq!(moved_to(room, &bytes, 3).0, Report::refused(2, 0));
+            }
+            assert_eq!(read(&bytes).unwrap().fields(), second);
+            assert!(text(&bytes).contains(&format!("\nblocks 1\ncopies {copies}\nserial ")));
+        }
+    }
+
+    /// No card that is read has more blocks yet, so such a card is put as no fields could say it.
+    #[test]
+    fn more_blocks_are_eleven_too() {
         let card = read(&good_card(Version::One)).unwrap();
-        for (code, count) in CODES {
-            for blocks in 1..=4 {
-                let copies = count as u8;
+        for blocks in 2..=4 {
+            let put_into = |room, version| {
                 let card = Card {
+                    version,
                     blocks,
-                    copies,
                     ..card
                 };
-                let put_into = |room, version| {
-                    let card = Card { version, ..card };
-                    done_to(room, |out| {
-                        put(&card, out).map_or_else(|refusal| refusal, Report::done)
-                    })
-                };
-                assert_eq!(put_into(10, Version::One).0, Report::refused(5, 11));
-                assert_eq!(put_into(11, Version::Two).0, Report::refused(5, 12));
-                let (first, _) = put_into(ROOM, Version::One);
-                let (second, bytes) = put_into(ROOM, Version::Two);
-                if (blocks, copies) == (1, 1) {
-                    assert_eq!(first, Report::done(11));
-                } else {
-                    assert_eq!(first, Report::refused(11, 0));
-                }
-                assert_eq!(second, Report::done(12));
-                assert_eq!(bytes[3], (blocks - 1) * 64 + code * 8);
-                let version = Version::Two;
-                let text = lines(&Card { version, ..card });
-                assert!(text.contains(&format!("\nblocks {blocks}\ncopies {copies}\nserial ")));
-            }
+                done_to(room, |out| {
+                    put(&card, out).map_or_else(|refusal| refusal, Report::done)
+                })
+            };
+            assert_eq!(put_into(10, Version::One).0, Report::refused(5, 11));
+            assert_eq!(put_into(ROOM, Version::One).0, Report::refused(11, 0));
+            let (report, bytes) = put_into(ROOM, Version::Two);
+            assert_eq!((report, bytes[3]), (Report::done(12), (blocks - 1) * 64));
         }
     }
 
@@ -769,9 +799,11 @@ mod tests {
             (with_byte_3(0x39), 2, 2, 2),
             (with_byte_3(0xC1), 2, 2, 2),
             (with_byte_3(0xF8), 3, 3, 2),
+            (with_byte_3(0x48), 3, 3, 2),
             // Good cards: the room or the version asked for is wrong.
             (on(Version::One, 1, 4, 0), 0, 5, 2),
             (on(Version::Two, 2, 4, 0), 0, 5, 2),
+            (with_byte_3(0x28), 0, 5, 2),
         ];
         for (card, when_read, to_second, to_third) in cases {
             assert_eq!(number_of(&card), when_read, "{card:02x?}");

@@ -103,27 +103,6 @@ impl Band {
     }
 }
 
-/// How a payload's coded bits fill the symbols.
-#[derive(Clone, Copy, Debug, PartialEq, Eq)]
-pub struct Layout {
-    pub symbols: usize,
-    pub items: usize,
-    /// Items of the last symbol that repeat coded bits from 0 on.
-    pub pad: usize,
-}
-
-/// The layout of `coded` bits with `bits_per_carrier` on each carrier of a band.
-pub const fn layout(band: &Band, bits_per_carrier: usize, coded: usize) -> Layout {
-    let per_symbol = band.places * bits_per_carrier;
-    let symbols = coded.div_ceil(per_symbol);
-    let items = symbols * per_symbol;
-    Layout {
-        symbols,
-        items,
-        pad: items - coded,
-    }
-}
-
 /// Index of the first received item that is not 0, 1 or 2.
 pub fn first_illegal(items: &[u8]) -> Option<usize> {
     items.iter().position(|&item| item > 2)
@@ -155,9 +134,6 @@ pub fn decide(balances: &[Balance], bits: &mut [u8]) -> Result<(), usize> {
 #[cfg(test)]
 mod tests {
     use super::*;
-    use crate::card::mode_is_defined;
-    use crate::interleaver::coded_bits;
-    use crate::points::{bits_per_carrier, QAM16};
 
     #[test]
     fn places_and_sub_carriers() {
@@ -215,36 +191,6 @@ mod tests {
             });
             assert_eq!(count, band.frame_control_items());
         }
-    }
-
-    /// Of blocks sent once (02, T-05; D9). Frame control, kind 0, is not padded.
-    #[test]
-    fn no_defined_mode_has_a_pad_longer_than_its_coded_data() {
-        let mut met = 0;
-        let mut nearest = Vec::new();
-        // Every value of four bits for each field, more than a card can hold.
-        for fields in 0..1u64 << 16 {
-            let mode = [12, 8, 4, 0].map(|shift| fields >> shift & 15);
-            let [band, kind, rate, modulation] = mode;
-            if kind == 0 || !mode_is_defined(band, kind, rate, modulation) {
-                continue;
-            }
-            met += 1;
-            let band = &BANDS[band as usize];
-            let bits = bits_per_carrier(modulation).unwrap();
-            let coded = coded_bits(kind as u8, rate as u8);
-            let plan = layout(band, bits, coded);
-            assert!(plan.pad <= coded && plan.pad < band.places * bits);
-            assert_eq!(plan.items, coded + plan.pad);
-            assert_eq!(plan.items, plan.symbols * band.places * bits);
-            // As near to its coded bits as 1,112 to 2,176, or nearer: ratios compared crosswise.
-            if plan.pad * 2176 >= 1112 * coded {
-                nearest.push((mode, plan.pad, coded));
-            }
-        }
-        // On 4 bands kinds 1 to 3 at rate 0 and kind 4 at both rates, each in 3 modulations.
-        assert_eq!(met, 4 * 5 * 3);
-        assert_eq!(nearest, [([0, 2, 0, QAM16], 1112, 2176)]);
     }
 
     #[test]

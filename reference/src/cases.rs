@@ -2,9 +2,11 @@
 //! random, the defined modes, and receptions that are damaged on purpose.
 
 use std::ops::Range;
+use std::rc::Rc;
 
 use crate::card::{self, Card, Fields, Version};
-use crate::carriers::{self, Band, BANDS, FRAME_CONTROL_BITS};
+use crate::carriers::{Band, BANDS, FRAME_CONTROL_BITS};
+use crate::copies::{Layout, COPY_NUM};
 use crate::interface::Entry;
 use crate::interleaver::{self, coded_bits, data_bits};
 use crate::{points, turbo, Report};
@@ -93,7 +95,7 @@ pub fn with_byte(card: &[u8], index: usize, byte: u8) -> Vec<u8> {
     card
 }
 
-/// Room for any answer.
+/// Room for any answer to a card with one copy.
 pub const AMPLE: usize = 9_900;
 
 /// Some taps: none, all, those of the example, and others.
@@ -110,13 +112,14 @@ pub fn all_bits(count: usize) -> impl Iterator<Item = Vec<u8>> {
     (0..1u8 << count).map(move |v| (0..count).map(|k| v >> k & 1).collect())
 }
 
-/// A defined mode.
+/// A defined mode, and how many copies it sends.
 #[derive(Clone, Copy, Debug, PartialEq, Eq)]
 pub struct Mode {
     pub band: u8,
     pub kind: u8,
     pub rate: u8,
     pub modulation: u8,
+    pub copies: u8,
 }
 
 /// The frame controls of all bands.
@@ -124,7 +127,7 @@ pub fn frame_controls() -> impl Iterator<Item = Mode> {
     (0..BANDS.len()).map(|band| Mode::frame_control(band as u8))
 }
 
-/// All defined modes: on each band one of frame control and fifteen of payload.
+/// All defined modes with one copy: on each band one of frame control and fifteen of payload.
 pub fn modes() -> Vec<Mode> {
     let mut modes = Vec::new();
     for frame_control in frame_controls() {
@@ -137,13 +140,28 @@ pub fn modes() -> Vec<Mode> {
     modes
 }
 
+/// All defined modes with more copies: each payload of `modes` with each count above one.
+pub fn copied_modes() -> Vec<Mode> {
+    let payloads = modes().into_iter().filter(|mode| mode.kind > 0);
+    payloads
+        .flat_map(|mode| COPY_NUM[1..].iter().map(move |&copies| mode.copied(copies)))
+        .collect()
+}
+
+/// All defined modes with every count of copies.
+pub fn all_modes() -> Vec<Mode> {
+    [modes(), copied_modes()].concat()
+}
+
 impl Mode {
+    /// A mode with one copy.
     pub const fn new(band: u8, kind: u8, rate: u8, modulation: u8) -> Mode {
         Mode {
             band,
             kind,
             rate,
             modulation,
+            copies: 1,
         }
     }
 
@@ -152,13 +170,27 @@ impl Mode {
         Mode::new(band, 0, 0, 1)
     }
 
+    /// The same mode with so many copies.
+    pub const fn copied(self, copies: u8) -> Mode {
+        Mode { copies, ..self }
+    }
+
     /// The mode of a good card.
     pub fn of(card: &[u8]) -> Option<Mode> {
         let card = card::read(card).ok()?;
-        Some(Mode::new(card.band, card.kind, card.rate, card.modulation))
+        let mode = Mode::new(card.band, card.kind, card.rate, card.modulation);
+        Some(mode.copied(card.copies))
     }
 
-    /// The fields of the mode's card of a version, with one block and one copy.
+    /// The versions whose cards can say the mode.
+    pub const fn versions(&self) -> &'static [Version] {
+        match self.copies {
+            1 => &Version::ALL,
+            _ => &[Version::Two],
+        }
+    }
+
+    /// The fields of the mode's card of a version, with one block.
     pub const fn fields(&self, version: Version, taps: u16, serial: u64) -> Fields {
         let card = Card {
             version,
@@ -169,7 +201,7 @@ impl Mode {
             taps,
             serial,
             blocks: 1,
-            copies: 1,
+            copies: self.copies,
         };
         card.fields()
     }
@@ -182,9 +214,9 @@ impl Mode {
         card
     }
 
-    /// The mode's card of version 1.
+    /// The mode's card of the first version that can say it.
     pub fn card(&self, taps: u16, serial: u64) -> Vec<u8> {
-        self.card_of(Version::One, taps, serial)
+        self.card_of(self.versions()[0], taps, serial)
     }
 
     pub const fn rate_name(&self) -> &'static str {
@@ -214,43 +246,66 @@ impl Mode {
         coded_bits(self.kind, self.rate)
     }
 
+    /// How a payload fills the symbols; None for frame control.
+    pub fn layout(&self) -> Option<Layout> {
+        if self.kind == 0 {
+            return None;
+        }
+        let bpc = points::bits_per_carrier(self.modulation.into())?;
+        Layout::new(self.band(), bpc, self.coded(), self.copies)
+    }
+
     /// Items of all symbols.
     pub fn items(&self) -> usize {
-        if self.kind == 0 {
-            return self.band().frame_control_items();
-        }
-        match points::bits_per_carrier(self.modulation.into()) {
-            Some(bits) => carriers::layout(self.band(), bits, self.coded()).items,
-            None => 0,
+        match self.layout() {
+            Some(layout) => layout.items(),
+            None => self.band().frame_control_items(),
         }
     }
 
-    /// Coded bits that have two copies because the last symbol repeats them; 0 for frame control.
-    pub fn pad(&self) -> usize {
-        if self.kind == 0 {
-            0
-        } else {
-            self.items() - self.coded()
+    /// Calls `visit(item, bit)` for each item that carries a coded bit, the items rising.
+    fn for_each_item(&self, mut visit: impl FnMut(usize, usize)) {
+        match self.layout() {
+            None => self.band().for_each_lane(visit),
+            Some(layout) => layout.for_each_run(|item, bit, length| {
+                for k in 0..length {
+                    visit(item + k, bit + k);
+                }
+            }),
         }
+    }
+
+    /// Coded bits that have a copy more than the others because pads repeat them. They are the
+    /// first ones. 0 for frame control, which has no pads.
+    pub fn repeated(&self) -> usize {
+        let layout = self.layout();
+        layout.map_or(0, |layout| layout.copy_num * layout.pad_bits_num)
+    }
+
+    /// The items of unused carriers, rising.
+    pub fn unused(&self) -> Vec<usize> {
+        let Some(layout) = self.layout() else {
+            return Vec::new();
+        };
+        let place = |item: &usize| item % layout.items_per_symbol();
+        let unused = |item: &usize| place(item) >= layout.bits_per_ofdm;
+        (0..layout.items()).filter(unused).collect()
     }
 
     /// The items that carry a coded bit, rising.
-    pub fn copies(&self, bit: usize) -> Vec<usize> {
-        if self.kind > 0 {
-            return (bit..self.items()).step_by(self.coded()).collect();
-        }
-        let mut copies = Vec::new();
-        self.band().for_each_lane(|item, carried| {
+    pub fn items_of(&self, bit: usize) -> Vec<usize> {
+        let mut items = Vec::new();
+        self.for_each_item(|item, carried| {
             if carried == bit {
-                copies.push(item);
+                items.push(item);
             }
         });
-        copies
+        items
     }
 
     /// The carriers of a frame control that carry a coded bit, rising.
     pub fn carriers(&self, bit: usize) -> Vec<usize> {
-        self.copies(bit).iter().map(|item| item / 2).collect()
+        self.items_of(bit).iter().map(|item| item / 2).collect()
     }
 
     /// The fewest copies that a bit of the band's frame control has.
@@ -277,6 +332,38 @@ impl Mode {
     }
 }
 
+/// The items that carry each coded bit of a mode.
+#[derive(Debug)]
+struct Copies {
+    /// Those of bit 0, then those of bit 1, and so on, rising for each bit.
+    items: Vec<usize>,
+    /// Where the items of each bit end.
+    ends: Vec<usize>,
+}
+
+impl Copies {
+    fn new(mode: Mode) -> Copies {
+        let mut ends = vec![0; mode.coded()];
+        mode.for_each_item(|_, bit| ends[bit] += 1);
+        let mut count = 0;
+        for end in &mut ends {
+            // Where the bit's items start, until they are put there.
+            (*end, count) = (count, count + *end);
+        }
+        let mut items = vec![0; count];
+        mode.for_each_item(|item, bit| {
+            items[ends[bit]] = item;
+            ends[bit] += 1;
+        });
+        Copies { items, ends }
+    }
+
+    fn of(&self, bit: usize) -> &[usize] {
+        let start = bit.checked_sub(1).map_or(0, |before| self.ends[before]);
+        &self.items[start..self.ends[bit]]
+    }
+}
+
 /// A block that was sent, and its items as they are received.
 #[derive(Clone, Debug)]
 pub struct Reception {
@@ -285,6 +372,7 @@ pub struct Reception {
     pub block: Vec<u8>,
     pub sent: Vec<u8>,
     pub items: Vec<u8>,
+    copies: Rc<Copies>,
 }
 
 impl Reception {
@@ -305,13 +393,19 @@ impl Reception {
             block,
             sent,
             items,
+            copies: Rc::new(Copies::new(mode)),
         }
     }
 
-    /// A card of version 1 with any taps and serial, and any block.
+    /// The mode's card with any taps and serial, and any block.
     pub fn random(mode: Mode, random: &mut Random) -> Reception {
         let card = mode.card(random.below(2048) as u16, random.word());
         Reception::new(mode, card, random.bytes(mode.bytes()))
+    }
+
+    /// The items that carry a coded bit, rising.
+    pub fn copies(&self, bit: usize) -> &[usize] {
+        self.copies.of(bit)
     }
 
     /// The item as sent, but with the other bit.
@@ -326,16 +420,14 @@ impl Reception {
 
     /// All copies of a coded bit lost.
     pub fn lose_bit(&mut self, bit: usize) {
-        for item in self.mode.copies(bit) {
-            self.lose(item);
-        }
+        let copies = Rc::clone(&self.copies);
+        self.damage_items(copies.of(bit), 0);
     }
 
     /// All copies of a coded bit wrong.
     pub fn flip_bit(&mut self, bit: usize) {
-        for item in self.mode.copies(bit) {
-            self.spoil(item);
-        }
+        let copies = Rc::clone(&self.copies);
+        self.damage_items(copies.of(bit), copies.of(bit).len());
     }
 
     /// The first so many of the items wrong, the others lost.
@@ -351,14 +443,40 @@ impl Reception {
 
     /// Of a coded bit's copies so many wrong and so many lost, no copy being both.
     pub fn damage_bit(&mut self, bit: usize, wrong: usize, lost: usize, random: &mut Random) {
-        let copies = self.mode.copies(bit);
-        self.damage_items(&random.some_of(&copies, wrong + lost), wrong);
+        let hit = random.some_of(self.copies(bit), wrong + lost);
+        self.damage_items(&hit, wrong);
     }
 
     /// A coded bit with as many copies wrong as right, and at most one lost.
     pub fn tie_bit(&mut self, bit: usize, random: &mut Random) {
-        let copies = self.mode.copies(bit).len();
+        let copies = self.copies(bit).len();
         self.damage_bit(bit, copies / 2, copies % 2, random);
+    }
+
+    /// A coded bit as it was sent, but for as many wrong and lost copies as undo it: twice the wrong
+    /// ones and the lost ones make the number of its copies.
+    pub fn undo_bit(&mut self, bit: usize, random: &mut Random) {
+        for &item in self.copies.of(bit) {
+            self.items[item] = self.sent[item];
+        }
+        let (wrong, lost) = altered_and_lost(self.copies(bit).len(), random);
+        self.damage_bit(bit, wrong, lost, random);
+    }
+
+    /// Every coded bit with wrong and lost copies, where twice the wrong ones and the lost ones make
+    /// `weight`. Below the count of copies a payload must come back (02, T-06).
+    pub fn damage_all_bits(&mut self, weight: usize, random: &mut Random) {
+        for bit in 0..self.mode.coded() {
+            let (wrong, lost) = altered_and_lost(weight, random);
+            self.damage_bit(bit, wrong, lost, random);
+        }
+    }
+
+    /// Anything legal on the unused carriers.
+    pub fn fill_unused(&mut self, random: &mut Random) {
+        for item in self.mode.unused() {
+            self.items[item] = random.below(3) as u8;
+        }
     }
 
     /// A carrier of frame control with an item that holds the wrong bit: either, both, or one
@@ -401,7 +519,8 @@ impl Reception {
     }
 }
 
-/// Numbers of altered and lost carriers, where twice the altered and the lost make `weight`.
+/// Numbers of altered and lost carriers, or of wrong and lost copies, where twice the first and the
+/// second make `weight`.
 pub fn altered_and_lost(weight: usize, random: &mut Random) -> (usize, usize) {
     let altered = random.within(0..weight / 2 + 1);
     (altered, weight - 2 * altered)
@@ -445,22 +564,34 @@ mod tests {
     }
 
     #[test]
-    fn every_item_is_a_copy_of_one_bit() {
-        for mode in modes() {
-            let mut items: Vec<usize> = (0..mode.coded())
-                .step_by(if mode.kind == 0 { 1 } else { 97 })
-                .flat_map(|bit| mode.copies(bit))
-                .collect();
-            let count = items.len();
+    fn there_are_300_modes_with_more_copies_and_each_has_a_card() {
+        let modes = copied_modes();
+        assert_eq!(modes.len(), 300);
+        for (n, mode) in modes.iter().enumerate() {
+            assert!(mode.kind > 0 && mode.copies > 1);
+            let card = mode.card(2047, 5);
+            assert_eq!((card.len(), Mode::of(&card)), (12, Some(*mode)));
+            assert!(!modes[..n].contains(mode));
+        }
+    }
+
+    #[test]
+    fn every_item_is_a_copy_of_one_bit_or_unused() {
+        for mode in all_modes() {
+            let copies = Copies::new(mode);
+            let mut items = mode.unused();
+            for bit in 0..mode.coded() {
+                items.extend(copies.of(bit));
+                if mode.kind > 0 {
+                    let more = usize::from(bit < mode.repeated());
+                    assert_eq!(copies.of(bit).len(), usize::from(mode.copies) + more);
+                }
+            }
             items.sort_unstable();
-            items.dedup();
-            assert_eq!(items.len(), count);
-            assert!(items.iter().all(|&item| item < mode.items()));
-            if mode.kind == 0 {
-                assert_eq!(count, mode.items());
-            } else {
-                assert_eq!(mode.copies(mode.pad()).len(), 1);
-                assert_eq!(mode.copies(mode.pad() - 1).len(), 2);
+            assert!(items.into_iter().eq(0..mode.items()), "{mode:?}");
+            for bit in (0..mode.coded()).step_by(501) {
+                assert_eq!(mode.items_of(bit), copies.of(bit));
+                assert!(copies.of(bit).is_sorted());
             }
         }
     }

@@ -6,6 +6,7 @@
 
 use crate::card::{self, Card};
 use crate::carriers::{self, Balance, Band, BANDS, FRAME_CONTROL_BITS};
+use crate::copies::Layout;
 use crate::interleaver::{self, coded_bits, data_bits, MAX_CODED};
 use crate::turbo::{self, MAX_PARITY};
 use crate::{number, points, scrambler, Report};
@@ -25,13 +26,14 @@ pub fn fc_read(card: &[u8], items: &[u8], out: &mut [u8]) -> Report {
     try_fc_read(card, items, out).map_or_else(|refusal| refusal, Report::done)
 }
 
-/// Sends a payload block: its bytes become the coded bits in order, and the last symbol is filled
-/// with coded bits from 0 on.
+/// Sends a payload block: its bytes become coded bits, and copies of these the items of all symbols.
+/// Items of unused carriers are 0.
 pub fn payload_send(card: &[u8], block: &[u8], out: &mut [u8]) -> Report {
     try_payload_send(card, block, out).map_or_else(|refusal| refusal, Report::done)
 }
 
-/// Reads a payload block: items become its bytes. Pad copies vote (D12).
+/// Reads a payload block: the items of all symbols become its bytes. Pad copies vote (D12). Items of
+/// unused carriers must be legal, and have no vote (D27).
 pub fn payload_read(card: &[u8], items: &[u8], out: &mut [u8]) -> Report {
     try_payload_read(card, items, out).map_or_else(|refusal| refusal, Report::done)
 }
@@ -64,33 +66,42 @@ fn try_fc_read(card: &[u8], items: &[u8], out: &mut [u8]) -> Result<usize, Repor
 
 fn try_payload_send(card: &[u8], block: &[u8], out: &mut [u8]) -> Result<usize, Report> {
     let plan = payload_plan(card)?;
-    check_lengths(block, plan.bytes, out, plan.items)?;
+    let layout = &plan.layout;
+    check_lengths(block, plan.bytes, out, layout.items())?;
 
     let mut scrambled = [0; MAX_BYTES];
     let scrambled = &mut scrambled[..plan.bytes];
     scrambled.copy_from_slice(block);
     scrambler::scramble(scrambled);
 
-    let (coded, pad) = out[..plan.items].split_at_mut(plan.coded);
+    let mut coded = [0; MAX_CODED];
+    let coded = &mut coded[..layout.data_bits_len];
     encode(&plan.card, scrambled, coded);
-    pad.copy_from_slice(&coded[..pad.len()]);
-    Ok(plan.items)
+
+    let out = &mut out[..layout.items()];
+    layout.for_each_run(|item, bit, length| {
+        out[item..item + length].copy_from_slice(&coded[bit..bit + length]);
+    });
+    for symbol in out.chunks_exact_mut(layout.items_per_symbol()) {
+        symbol[layout.bits_per_ofdm..].fill(0);
+    }
+    Ok(out.len())
 }
 
 fn try_payload_read(card: &[u8], items: &[u8], out: &mut [u8]) -> Result<usize, Report> {
     let plan = payload_plan(card)?;
-    check_lengths(items, plan.items, out, plan.bytes)?;
+    let layout = &plan.layout;
+    check_lengths(items, layout.items(), out, plan.bytes)?;
     check_items(items)?;
 
     let mut balances = [0; MAX_CODED];
-    let balances = &mut balances[..plan.coded];
-    let (first_copies, pad) = items.split_at(plan.coded);
-    for (balance, &item) in balances.iter_mut().zip(first_copies) {
-        *balance = carriers::vote(item);
-    }
-    for (balance, &item) in balances.iter_mut().zip(pad) {
-        *balance += carriers::vote(item);
-    }
+    let balances = &mut balances[..layout.data_bits_len];
+    layout.for_each_run(|item, bit, length| {
+        let copies = &items[item..item + length];
+        for (balance, &copy) in balances[bit..bit + length].iter_mut().zip(copies) {
+            *balance += carriers::vote(copy);
+        }
+    });
 
     let mut block = [0; MAX_BYTES];
     let block = &mut block[..plan.bytes];
@@ -113,9 +124,7 @@ fn frame_control_card(card: &[u8]) -> Result<(Card, Band), Report> {
 struct PayloadPlan {
     card: Card,
     bytes: usize,
-    coded: usize,
-    /// The coded bits, and a pad of at most as many (D9).
-    items: usize,
+    layout: Layout,
 }
 
 /// A card as the payload entries take it: one of a frame control is 3.
@@ -124,17 +133,16 @@ fn payload_plan(card: &[u8]) -> Result<PayloadPlan, Report> {
     if card.kind == 0 {
         return Err(Report::refused(number::MODE, 0));
     }
-    let Some(bits_per_carrier) = points::bits_per_carrier(u64::from(card.modulation)) else {
-        return Err(Report::refused(number::MODE, 0));
-    };
+    let band = &BANDS[usize::from(card.band)];
     let coded = coded_bits(card.kind, card.rate);
-    let layout = carriers::layout(&BANDS[usize::from(card.band)], bits_per_carrier, coded);
+    let layout = points::bits_per_carrier(card.modulation.into())
+        .and_then(|bpc| Layout::new(band, bpc, coded, card.copies))
+        .ok_or(Report::refused(number::MODE, 0))?;
     let bytes = turbo::SIZES[usize::from(card.kind)].bytes;
     Ok(PayloadPlan {
         card,
         bytes,
-        coded,
-        items: layout.items,
+        layout,
     })
 }
 

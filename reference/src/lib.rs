@@ -7,6 +7,7 @@
 pub mod card;
 pub mod carriers;
 pub mod cases;
+pub mod copies;
 #[cfg(feature = "core")]
 pub mod core_calls;
 pub mod entries;

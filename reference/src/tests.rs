@@ -1,12 +1,13 @@
-//! The numbers, the bench checks P1 to P12 of 01, the narrow bands, the second card and the
-//! puncturing of 02 (T-01, T-03, T-04), and the entries in all defined modes.
+//! The numbers, the bench checks P1 to P12 of 01, the narrow bands, the second card, the puncturing
+//! and the copied payload of 02 (T-01, T-03, T-04, T-06), and the entries in all defined modes.
 
 use crate::card::{self, Fields, Version};
 use crate::carriers::{self, BANDS};
 use crate::cases::{
-    altered_and_lost, frame_controls, modes, with_byte, Mode, Random, Reception, EXAMPLE,
-    SECOND_EXAMPLE, TAPS,
+    all_modes, altered_and_lost, copied_modes, frame_controls, modes, with_byte, Mode, Random,
+    Reception, EXAMPLE, SECOND_EXAMPLE, TAPS,
 };
+use crate::copies::tests::listed;
 use crate::interface::{place_of_sub_carrier, sub_carrier_of_place, Entry};
 use crate::scrambler::{scramble, Scrambler};
 use crate::turbo::{interleaved_from, PUNCTURE_ROW, SIZES};
@@ -14,27 +15,106 @@ use crate::{interleaver, turbo, Report};
 
 const SERIAL: u64 = 0xFEDC_BA98_7654_3210;
 
-/// The coded bit of every item, straight from 01 and 02 (T-01).
-fn item_bits(mode: Mode) -> Vec<usize> {
-    let bands = [(411, 4), (131, 12), (89, 12), (49, 12)];
-    let (places, symbols) = bands[usize::from(mode.band)];
+/// Carriers and frame-control symbols by band (01; 02, T-01).
+const CARRIERS: [(usize, usize); 4] = [(411, 4), (131, 12), (89, 12), (49, 12)];
+
+/// The coded bit of every item, straight from 01 and 02 (T-01, T-06); None on unused carriers.
+fn item_bits(mode: Mode) -> Vec<Option<usize>> {
+    let (carriers, symbols) = CARRIERS[usize::from(mode.band)];
+    if mode.copies > 1 {
+        return copied_bits(mode);
+    }
     if mode.kind > 0 {
-        let coded = match mode.rate {
-            0 => 16 * [16, 72, 136, 264, 520][usize::from(mode.kind)],
-            _ => 4680,
-        };
-        let per_symbol = places * [1, 2, 4][usize::from(mode.modulation)];
+        let coded = coded_bits(mode);
+        let per_symbol = carriers * bits_per_carrier(mode);
         let items = usize::div_ceil(coded, per_symbol) * per_symbol;
-        return (0..items).map(|n| n % coded).collect();
+        return (0..items).map(|n| Some(n % coded)).collect();
     }
     let offsets = [0, 192, 160, 96, 144, 80, 48, 240, 24, 184, 136, 40];
     let mut bits = Vec::new();
     for o in &offsets[..symbols] {
-        for c in 0..places {
-            bits.extend([(c + o) % 256, (c + o + 128) % 256]);
+        for c in 0..carriers {
+            bits.extend([Some((c + o) % 256), Some((c + o + 128) % 256)]);
         }
     }
     bits
+}
+
+fn coded_bits(mode: Mode) -> usize {
+    match mode.rate {
+        0 => 16 * [16, 72, 136, 264, 520][usize::from(mode.kind)],
+        _ => 4680,
+    }
+}
+
+fn bits_per_carrier(mode: Mode) -> usize {
+    [1, 2, 4][usize::from(mode.modulation)]
+}
+
+/// The same with more than one copy: the section of 000 step by step, on lists (D27).
+fn copied_bits(mode: Mode) -> Vec<Option<usize>> {
+    let (carriers, bpc, data_bits_len) = (
+        CARRIERS[usize::from(mode.band)].0,
+        bits_per_carrier(mode),
+        coded_bits(mode),
+    );
+    let copy_num = usize::from(mode.copies);
+    let (inter_num, inter_num_per_group) = match copy_num {
+        2 => (8, 4),
+        4 => (8, 2),
+        5 => (10, 2),
+        7 => (14, 2),
+        _ => (11, 1),
+    };
+    let n = carriers / inter_num;
+    let bits_per_group = bpc * inter_num_per_group * n;
+    let last_ofdm = match data_bits_len % (bits_per_group * copy_num) {
+        0 => copy_num,
+        rest => rest.div_ceil(bits_per_group),
+    };
+    let pad = data_bits_len.next_multiple_of(bits_per_group) - data_bits_len;
+    let step = match n / (2 * inter_num) {
+        0 => 0,
+        1 => 1,
+        2..4 => 2,
+        _ => 4,
+    };
+    let addresses: Vec<Vec<usize>> = (0..inter_num).map(|k| listed(k + 1, step, n)).collect();
+
+    let mut out = Vec::new();
+    for copy in 0..copy_num {
+        let mut data: Vec<usize> = (0..data_bits_len).collect();
+        data.extend(copy * pad..(copy + 1) * pad);
+        let mut groups = Vec::new();
+        for group in data.chunks(bits_per_group) {
+            let mut interleaved: Vec<usize> = Vec::new();
+            for (span, k) in group.chunks(bpc * n).zip(copy * inter_num_per_group..) {
+                let carriers: Vec<&[usize]> = span.chunks(bpc).collect();
+                let at = |address: &usize| carriers[address - 1];
+                interleaved.extend(addresses[k].iter().flat_map(at));
+            }
+            groups.push(interleaved);
+        }
+        // How many groups the last symbol would have of a single copy says how to shift.
+        groups.rotate_right(match (copy_num, last_ofdm) {
+            (4, 2) => [0, 0, 1, 1][copy],
+            _ if last_ofdm == copy_num => copy,
+            _ => 0,
+        });
+        out.extend(groups.concat());
+    }
+    let unused = vec![None; bpc * (carriers - inter_num * n)];
+    let mut bits = Vec::new();
+    for symbol in out.chunks(bpc * inter_num * n) {
+        bits.extend(symbol.iter().map(|&bit| Some(bit)));
+        bits.extend(&unused);
+    }
+    bits
+}
+
+/// What a coded bit's value is on each item; 0 on unused carriers.
+fn on_items<'a>(bits: &'a [Option<usize>], coded: &'a [u8]) -> impl Iterator<Item = u8> + 'a {
+    bits.iter().map(|bit| bit.map_or(0, |bit| coded[bit]))
 }
 
 /// Sends a block and gives exactly the items.
@@ -69,7 +149,7 @@ fn items_with(mode: Mode, block: &[u8], parity: impl Fn(&[u8]) -> Vec<u8>) -> Ve
     let joined = [bits_of(&input), parity(&input)].concat();
     let mut coded = vec![0; mode.coded()];
     interleaver::shuffle(mode.kind, mode.rate, &joined, &mut coded);
-    item_bits(mode).iter().map(|&bit| coded[bit]).collect()
+    on_items(&item_bits(mode), &coded).collect()
 }
 
 /// What a reading side must answer, by the words of 01 and by other code than the entries'.
@@ -79,7 +159,9 @@ fn plain_read(mode: Mode, taps: u16, items: &[u8]) -> Result<Vec<u8>, Report> {
     }
     let mut counts = vec![[0; 3]; mode.coded()];
     for (&item, bit) in items.iter().zip(item_bits(mode)) {
-        counts[bit][usize::from(item)] += 1;
+        if let Some(bit) = bit {
+            counts[bit][usize::from(item)] += 1;
+        }
     }
     if let Some(bit) = counts.iter().position(|count| count[0] == count[1]) {
         return Err(Report::refused(7, bit as u64));
@@ -218,7 +300,7 @@ fn fewest_and_most_copies_of_each_band() {
         let copies = BANDS[usize::from(mode.band)].copies();
         for (bit, &count) in copies.iter().enumerate() {
             assert_eq!(
-                bits.iter().filter(|&&carried| carried == bit).count(),
+                bits.iter().filter(|&&carried| carried == Some(bit)).count(),
                 count
             );
             assert_eq!(mode.carriers(bit), mode.carriers((bit + 128) % 256));
@@ -307,7 +389,7 @@ fn the_example_as_a_card_of_version_2() {
     assert_eq!(moved(&moved(&FIRST, 2), 1), FIRST);
     assert_eq!(moved(&moved(&SECOND, 1), 2), SECOND);
 
-    // Kind 5, version 1 on twelve bytes, spare 1, padding, two blocks, two copies, copy codes 6, 7.
+    // Kind 5, version 1 on twelve bytes, spare 1, padding, two blocks, copy codes 6 and 7.
     let others = [
         (1, 0xD8, 3),
         (0, 0x12, 10),
@@ -316,44 +398,64 @@ fn the_example_as_a_card_of_version_2() {
         (3, 0x02, 2),
         (3, 0x04, 2),
         (3, 0x40, 3),
-        (3, 0x08, 3),
         (3, 0x30, 3),
         (3, 0x38, 3),
     ];
     check_refused(&SECOND, &others);
+    for (byte, copies) in [(8, 2), (16, 4), (24, 5), (32, 7), (40, 11)] {
+        let copied = with_byte(&SECOND, 3, byte);
+        let line = format!("copies {copies}");
+        check_card(
+            &copied,
+            &Fields {
+                copies,
+                ..SECOND_EXAMPLE
+            },
+            &text.replace("copies 1", &line),
+        );
+    }
     assert_eq!(card::text(&SECOND[..11]), "refused 10\n");
     assert_eq!(card::text(&[&SECOND[..], &[0]].concat()), "refused 1\n");
 }
 
 #[test]
 fn p12_layout_of_4680_coded_bits() {
-    let layout = carriers::layout(&BANDS[0], 2, interleaver::coded_bits(4, 1));
-    assert_eq!((layout.symbols, layout.pad), (6, 252));
+    let layout = Mode::new(0, 4, 1, 1).layout().unwrap();
+    assert_eq!((layout.groups, layout.pad_bits_num), (6, 252));
 }
 
 // The entries.
 
+/// The modes with the taps they are tried with: all with one copy, one in turn with more.
+fn all_modes_and_taps() -> impl Iterator<Item = (Mode, u16)> {
+    all_modes().into_iter().enumerate().flat_map(|(n, mode)| {
+        let taps = match mode.copies {
+            1 => &TAPS[..],
+            _ => &TAPS[n % TAPS.len()..][..1],
+        };
+        taps.iter().map(move |&taps| (mode, taps))
+    })
+}
+
 #[test]
 fn round_trips_in_all_defined_modes() {
     let mut random = Random::new(1);
-    for taps in TAPS {
-        for mode in modes() {
-            let (send, read) = mode.entries();
-            let block = random.bytes(mode.bytes());
-            let needed = item_bits(mode).len();
-            for version in Version::ALL {
-                let card = mode.card_of(version, taps, SERIAL);
-                let mut items = vec![7; needed + 5];
-                let report = send.call(&card, &block, &mut items);
-                assert_eq!(report, Report::done(needed), "{mode:?}");
-                assert_eq!(items[needed..], [7; 5]);
-                assert!(items[..needed].iter().all(|&item| item < 2));
-                let mut back = vec![0xA5; mode.bytes() + 1];
-                let report = read.call(&card, &items[..needed], &mut back);
-                assert_eq!(report, Report::done(mode.bytes()), "{mode:?}");
-                assert_eq!(back[..mode.bytes()], block);
-                assert_eq!(back[mode.bytes()], 0xA5);
-            }
+    for (mode, taps) in all_modes_and_taps() {
+        let (send, read) = mode.entries();
+        let block = random.bytes(mode.bytes());
+        let needed = item_bits(mode).len();
+        for &version in mode.versions() {
+            let card = mode.card_of(version, taps, SERIAL);
+            let mut items = vec![7; needed + 5];
+            let report = send.call(&card, &block, &mut items);
+            assert_eq!(report, Report::done(needed), "{mode:?}");
+            assert_eq!(items[needed..], [7; 5]);
+            assert!(items[..needed].iter().all(|&item| item < 2));
+            let mut back = vec![0xA5; mode.bytes() + 1];
+            let report = read.call(&card, &items[..needed], &mut back);
+            assert_eq!(report, Report::done(mode.bytes()), "{mode:?}");
+            assert_eq!(back[..mode.bytes()], block);
+            assert_eq!(back[mode.bytes()], 0xA5);
         }
     }
 }
@@ -389,7 +491,7 @@ fn both_versions_of_a_card_send_and_read_alike() {
 fn items_are_the_coded_bits_of_the_scrambled_block() {
     let mut random = Random::new(2);
     let taps = 731;
-    for mode in modes() {
+    for mode in all_modes() {
         let block = random.bytes(mode.bytes());
         let expected = items_with(mode, &block, |input| parity_of(mode, taps, input));
         assert_eq!(sent(mode, taps, &block), expected);
@@ -438,7 +540,7 @@ fn blocks_punctured_by_the_old_reading_differ_in_parity_nibbles_and_are_refused(
 
 #[test]
 fn counts_of_items() {
-    for mode in modes() {
+    for mode in all_modes() {
         assert_eq!(mode.items(), item_bits(mode).len());
     }
     let count = |band, kind, rate, modulation| Mode::new(band, kind, rate, modulation).items();
@@ -455,7 +557,7 @@ fn counts_of_items() {
 
 #[test]
 fn both_sides_of_each_length() {
-    for mode in modes() {
+    for mode in all_modes() {
         let (card, (send, read)) = (mode.card(1365, SERIAL), mode.entries());
         let (bytes, items) = (mode.bytes(), item_bits(mode).len());
         for (entry, input, output) in [(send, bytes, items), (read, items, bytes)] {
@@ -530,8 +632,16 @@ fn cards_of_version_2_are_refused_before_all_else() {
         for byte in [0x01, 0x02, 0x04, 0x39, 0xFF] {
             assert_eq!(with(3, byte), (2, 0));
         }
-        for byte in [0x08, 0x10, 0x18, 0x20, 0x28, 0x30, 0x38, 0x40, 0x80, 0xC0] {
+        for byte in [0x30, 0x38, 0x40, 0x80, 0xC0, 0x48, 0xE8] {
             assert_eq!(with(3, byte), (3, 0));
+        }
+        // More copies are for payloads alone; with them the input's length is judged next.
+        for byte in [0x08, 0x10, 0x18, 0x20, 0x28] {
+            let expected = match Mode::of(&good).unwrap().kind {
+                0 => (3, 0),
+                _ => (4, 5),
+            };
+            assert_eq!(with(3, byte), expected);
         }
         // Modulation 3, and a kind that the entry doesn't serve.
         assert_eq!(with(1, good[1] | 0x30), (3, 0));
@@ -541,7 +651,7 @@ fn cards_of_version_2_are_refused_before_all_else() {
 
 #[test]
 fn reading_refuses_in_row_order() {
-    for mode in modes() {
+    for mode in all_modes() {
         let card = mode.card(1095, SERIAL);
         let read = |items: &[u8], out: &mut [u8]| mode.entries().1.call(&card, items, out);
         let sent = sent(mode, 1095, &vec![0x3C; mode.bytes()]);
@@ -572,15 +682,15 @@ fn reading_refuses_in_row_order() {
         });
         let mut items = sent.clone();
         for (item, &bit) in items.iter_mut().zip(&bits) {
-            if bit == parity_place {
+            if bit == Some(parity_place) {
                 *item ^= 1;
-            } else if bit == 100 || bit == 40 {
+            } else if bit == Some(100) || bit == Some(40) {
                 *item = 2;
             }
         }
         assert_eq!(read(&items, &mut out), Report::refused(7, 40));
         for (item, (&bit, &was)) in items.iter_mut().zip(bits.iter().zip(&sent)) {
-            if bit != parity_place {
+            if bit != Some(parity_place) {
                 *item = was;
             }
         }
@@ -599,40 +709,38 @@ fn reading_refuses_in_row_order() {
 fn the_count_of_refusal_8() {
     // The encoder is linear: wrong data bits alter the parity by the parity of the change.
     let mut random = Random::new(3);
-    for taps in TAPS {
-        for mode in modes() {
-            let mut change = vec![0; mode.bytes()];
-            for _ in 0..3 {
-                change[random.below(mode.bytes())] ^= 1 << random.below(8);
-            }
-            let parity = parity_of(mode, taps, &change);
-            let count = parity.iter().filter(|&&bit| bit == 1).count();
-
-            let block = random.bytes(mode.bytes());
-            let wrong: Vec<u8> = block.iter().zip(&change).map(|(a, b)| a ^ b).collect();
-            let data = bits_of(&change);
-            let mut flip = vec![0; mode.coded()];
-            interleaver::for_each_coded(mode.kind, mode.rate, |to, from| {
-                flip[to] = data.get(from).copied().unwrap_or(0);
-            });
-            let items: Vec<u8> = sent(mode, taps, &block)
-                .iter()
-                .zip(item_bits(mode))
-                .map(|(item, bit)| item ^ flip[bit])
-                .collect();
-            let mut out = vec![0xA5; mode.bytes()];
-            let (card, (_, read)) = (mode.card(taps, SERIAL), mode.entries());
-            let report = read.call(&card, &items, &mut out);
-            if count > 0 {
-                assert_eq!(report, Report::refused(8, count as u64));
-                assert!(out.iter().all(|&byte| byte == 0xA5));
-            } else {
-                // Wrong data comes back as done where no parity tells, as with taps 0 (D12).
-                assert_eq!(report, Report::done(mode.bytes()));
-                assert_eq!(out, wrong);
-            }
-            assert_eq!(check_read(mode, taps, &items), report);
+    for (mode, taps) in all_modes_and_taps() {
+        let mut change = vec![0; mode.bytes()];
+        for _ in 0..3 {
+            change[random.below(mode.bytes())] ^= 1 << random.below(8);
         }
+        let parity = parity_of(mode, taps, &change);
+        let count = parity.iter().filter(|&&bit| bit == 1).count();
+
+        let block = random.bytes(mode.bytes());
+        let wrong: Vec<u8> = block.iter().zip(&change).map(|(a, b)| a ^ b).collect();
+        let data = bits_of(&change);
+        let mut flip = vec![0; mode.coded()];
+        interleaver::for_each_coded(mode.kind, mode.rate, |to, from| {
+            flip[to] = data.get(from).copied().unwrap_or(0);
+        });
+        let items: Vec<u8> = sent(mode, taps, &block)
+            .iter()
+            .zip(on_items(&item_bits(mode), &flip))
+            .map(|(item, flip)| item ^ flip)
+            .collect();
+        let mut out = vec![0xA5; mode.bytes()];
+        let (card, (_, read)) = (mode.card(taps, SERIAL), mode.entries());
+        let report = read.call(&card, &items, &mut out);
+        if count > 0 {
+            assert_eq!(report, Report::refused(8, count as u64));
+            assert!(out.iter().all(|&byte| byte == 0xA5));
+        } else {
+            // Wrong data comes back as done where no parity tells, as with taps 0 (D12).
+            assert_eq!(report, Report::done(mode.bytes()));
+            assert_eq!(out, wrong);
+        }
+        assert_eq!(check_read(mode, taps, &items), report);
     }
 }
 
@@ -642,8 +750,15 @@ fn damage_is_judged_as_the_words_of_01_say() {
     let mut seen = [0; 12];
     for round in 0..60 {
         let taps = TAPS[round % TAPS.len()];
-        for mode in modes() {
-            if mode.kind > 1 && round > 5 {
+        for mode in all_modes() {
+            // Long lists in a few rounds only.
+            let last = match (mode.kind, mode.copies) {
+                (0 | 1, 1) => 60,
+                (_, 1) => 6,
+                (1, _) => 4,
+                (_, _) => 1,
+            };
+            if round >= last {
                 continue;
             }
             let block = random.bytes(mode.bytes());
@@ -679,7 +794,8 @@ fn few_wrong_frame_control_copies_are_outvoted() {
         let sent = sent(mode, taps, &word);
         let bits = item_bits(mode);
         for bit in 0..256 {
-            let places: Vec<usize> = (0..bits.len()).filter(|&n| bits[n] == bit).collect();
+            let carries = |n: &usize| bits[*n] == Some(bit);
+            let places: Vec<usize> = (0..bits.len()).filter(carries).collect();
             for wrong in 0..=places.len() {
                 let mut items = sent.clone();
                 for &place in &places[..wrong] {
@@ -759,5 +875,103 @@ fn pad_copies_vote() {
             check_read(mode, taps, &items),
             Report::refused(7, pad as u64)
         );
+    }
+}
+
+// Copied payload (02, T-06; D27).
+
+/// A payload read with the room it needs: the answer, and the block.
+fn payload_back(reception: &Reception) -> (Report, Vec<u8>) {
+    let mut block = vec![0xA5; reception.mode.bytes()];
+    let report = Entry::PayloadRead.call(&reception.card, &reception.items, &mut block);
+    (report, block)
+}
+
+/// A payload comes back as it was sent.
+fn comes_back(reception: &Reception) -> bool {
+    let done = Report::done(reception.mode.bytes());
+    payload_back(reception) == (done, reception.block.clone())
+}
+
+/// A payload is refused, and nothing is written.
+fn check_refusal(reception: &Reception, number: u32, value: usize) {
+    let (report, block) = payload_back(reception);
+    let mode = reception.mode;
+    assert_eq!(report, Report::refused(number, value as u64), "{mode:?}");
+    assert!(block.iter().all(|&byte| byte == 0xA5));
+}
+
+/// A reception with all coded bits damaged to just below the count of copies.
+fn damaged_to_the_limit(mode: Mode, random: &mut Random) -> Reception {
+    let mut reception = Reception::random(mode, random);
+    reception.damage_all_bits(usize::from(mode.copies) - 1, random);
+    reception
+}
+
+#[test]
+fn damage_below_the_count_of_copies_comes_back() {
+    let mut random = Random::new(8);
+    for mode in copied_modes() {
+        let reception = damaged_to_the_limit(mode, &mut random);
+        assert!(comes_back(&reception), "{mode:?}");
+        // Nothing of it is left out: at least half as many copies as the weight are changed.
+        let pairs = reception.items.iter().zip(&reception.sent);
+        let changed = pairs.filter(|(a, b)| a != b).count();
+        assert!(2 * changed >= mode.coded() * (usize::from(mode.copies) - 1));
+    }
+}
+
+#[test]
+fn a_bit_at_the_count_of_its_own_copies_is_refused_by_7() {
+    let mut random = Random::new(9);
+    for mode in copied_modes() {
+        let mut reception = damaged_to_the_limit(mode, &mut random);
+        // From the highest down, so that each is the lowest. The first bits have a copy more.
+        let last = mode.coded() - 1;
+        for bit in [last, mode.repeated().min(last), mode.repeated() / 2, 0] {
+            reception.undo_bit(bit, &mut random);
+            check_refusal(&reception, 7, bit);
+        }
+    }
+}
+
+#[test]
+fn unused_carriers_go_out_as_0_and_have_no_vote() {
+    let mut random = Random::new(10);
+    for mode in copied_modes() {
+        let mut reception = Reception::random(mode, &mut random);
+        let bits = item_bits(mode);
+        let is_unused = |item: &usize| bits[*item].is_none();
+        let unused: Vec<usize> = (0..bits.len()).filter(is_unused).collect();
+        assert!(!unused.is_empty() && unused == mode.unused());
+        assert!(unused.iter().all(|&item| reception.sent[item] == 0));
+
+        for legal in [1, 2] {
+            for &item in &unused {
+                reception.items[item] = legal;
+            }
+            assert!(comes_back(&reception), "{mode:?}");
+        }
+        reception.fill_unused(&mut random);
+        assert!(comes_back(&reception), "{mode:?}");
+
+        // Illegal ones from the last down, the lowest being named, whether it is used or not.
+        let some = random.pick(&unused);
+        for item in [*unused.last().unwrap(), some, unused[0], unused[0] - 1] {
+            reception.items[item] = random.within(3..256) as u8;
+            check_refusal(&reception, 6, item);
+        }
+    }
+}
+
+#[test]
+fn outputs_keep_what_is_beyond_the_answer() {
+    for mode in copied_modes() {
+        let (card, needed) = (mode.card(682, SERIAL), mode.items());
+        let mut out = vec![0xA5; needed + 9];
+        let block = vec![0x5A; mode.bytes()];
+        let report = Entry::PayloadSend.call(&card, &block, &mut out);
+        assert_eq!(report, Report::done(needed));
+        assert_eq!(out[needed..], [0xA5; 9]);
     }
 }

@@ -15,6 +15,6 @@ pub record Returned {A : Type 0} (o : Outcome ℕ A) (n : ℕ) (value : List ℕ
   pub report-is : Reported (o .report) n value
   pub buffer-is : out ≡ o .out
 
--- the version of the C interface, 3.0.0: minor number and patch have two digits each
+-- the version of the C interface, 3.1.0: minor number and patch have two digits each
 abbrev pub interfaceVersion : ℕ
-interfaceVersion = 30000
+interfaceVersion = 30100

@@ -17,7 +17,7 @@ ghost use Rattle.payload.specs.Entries.{send as payloadSend, read as payloadRea
 ghost use Rattle.tester.specs.Call.{Reported, Returned, interfaceVersion};
 
 // The version of this interface.
-const VERSION: u32 = 30000;
+const VERSION: u32 = 30100;
 
 #[no_mangle]
 pub extern "C" fn hplc_version() -> u32

@@ -1,16 +1,18 @@
 //! The programs `encode`, `decode` and `print_card` over the reference, to be compared with those
-//! over the core. Each takes cards of both versions.
+//! over the core. Each takes cards of both versions, with every count of copies.
 //!
 //! `job encode CARD BLOCK` writes the items, a byte an item; `job decode CARD ITEMS` writes the
 //! bytes as a line of hex. The card's kind says whether it is a frame control or a payload block. A
-//! refusal is written as its number and what comes with it, a line each. A file that cannot be read
-//! counts as empty. `job print_card` prints the card on standard input, or its refusal (01; D11).
+//! refusal is written as its number and what comes with it, a line each. Of a file the first
+//! 131,072 bytes are taken, and one that cannot be read counts as empty (D19). `job print_card`
+//! prints the card on standard input, or its refusal (01; D11).
 
-use std::fs;
+use std::fs::File;
 use std::io::{self, Read, Write};
 use std::process::ExitCode;
 
 use reference::card;
+use reference::copies::MAX_ITEMS;
 use reference::interface::Entry;
 use reference::{number, Report};
 
@@ -18,8 +20,8 @@ const USAGE: &str = "usage: job encode CARD BLOCK
        job decode CARD ITEMS
        job print_card < CARD";
 
-/// More than any entry writes.
-const ROOM: usize = 10_000;
+/// What is taken of a file.
+const FILE_BYTES: u64 = 131_072;
 
 /// The entries that send and read with a card. One that is refused goes to frame control (D19).
 fn entries(card: &[u8]) -> (Entry, Entry) {
@@ -28,7 +30,7 @@ fn entries(card: &[u8]) -> (Entry, Entry) {
 
 /// What an entry wrote, or its refusal.
 fn call(entry: Entry, card: &[u8], input: &[u8]) -> Result<Vec<u8>, Report> {
-    let mut out = vec![0; ROOM];
+    let mut out = vec![0; MAX_ITEMS];
     let report = entry.call(card, input, &mut out);
     if report.number != number::DONE {
         return Err(report);
@@ -59,7 +61,12 @@ fn print_card(card: &[u8]) -> Vec<u8> {
 }
 
 fn file(name: &str) -> Vec<u8> {
-    fs::read(name).unwrap_or_default()
+    let mut bytes = Vec::new();
+    let read = File::open(name).and_then(|file| file.take(FILE_BYTES).read_to_end(&mut bytes));
+    match read {
+        Ok(_) => bytes,
+        Err(_) => Vec::new(),
+    }
 }
 
 fn standard_input() -> io::Result<Vec<u8>> {
@@ -94,12 +101,12 @@ fn main() -> ExitCode {
 mod tests {
     use super::*;
     use reference::card::Version;
-    use reference::cases::{modes, with_byte};
+    use reference::cases::{all_modes, modes, with_byte};
 
     #[test]
     fn what_is_encoded_is_decoded() {
-        for mode in modes() {
-            for version in Version::ALL {
+        for mode in all_modes() {
+            for &version in mode.versions() {
                 let card = mode.card_of(version, 1095, 5);
                 let block = vec![0xA5; mode.bytes()];
                 let items = encode(&card, &block);
@@ -107,6 +114,23 @@ mod tests {
                 assert_eq!(decode(&card, &items), hex_line(block));
             }
         }
+    }
+
+    #[test]
+    fn of_a_file_the_first_131072_bytes_are_taken() {
+        let folder = std::env::temp_dir();
+        let name = folder.join(format!("job-{}", std::process::id()));
+        let path = name.to_str().unwrap();
+        let mut lengths = Vec::new();
+        for length in [0, 101_920, 131_071, 131_072, 131_073, 200_000] {
+            std::fs::write(&name, vec![7; length]).unwrap();
+            lengths.push(file(path).len());
+        }
+        assert_eq!(lengths, [0, 101_920, 131_071, 131_072, 131_072, 131_072]);
+        std::fs::remove_file(&name).unwrap();
+        // No such file, and a folder.
+        assert!(file(path).is_empty());
+        assert!(file(folder.to_str().unwrap()).is_empty());
     }
 
     #[test]
@@ -131,5 +155,9 @@ mod tests {
                     blocks 1\ncopies 1\nserial 6\n";
         assert_eq!(print_card(&card), text.as_bytes());
         assert_eq!(print_card(&card[..11]), b"refused 10\n");
+        let copied = modes()[1].copied(11).card(5, 6);
+        let text = "version 2\nband 0\nkind 1\nrate 0\nmodulation 0\ntaps 00000000101\n\
+                    blocks 1\ncopies 11\nserial 6\n";
+        assert_eq!(print_card(&copied), text.as_bytes());
     }
 }

@@ -1,7 +1,10 @@
 //! Cards of both versions: read, written, printed and moved.
 
 use reference::card::{self, Fields, Version};
-use reference::cases::{modes, with_byte, Mode, Random, EXAMPLE, SECOND_EXAMPLE};
+use reference::cases::{
+    all_modes, copied_modes, modes, with_byte, Mode, Random, EXAMPLE, SECOND_EXAMPLE,
+};
+use reference::copies::COPY_NUM;
 use reference::interface::CARD_FIELDS;
 use reference::Report;
 
@@ -18,9 +21,18 @@ pub fn any_version(random: &mut Random) -> Version {
     random.pick(&Version::ALL)
 }
 
+/// Any defined mode, half of the time with more than one copy where a version can say it.
+fn any_mode_of(version: Version, random: &mut Random) -> Mode {
+    if version == Version::Two && random.once_in(2) {
+        random.pick(&copied_modes())
+    } else {
+        random.pick(&modes())
+    }
+}
+
 /// A card of a version with any defined mode, taps and serial.
 fn good_card(version: Version, random: &mut Random) -> Vec<u8> {
-    let mode = random.pick(&modes());
+    let mode = any_mode_of(version, random);
     let serial = random.word_of_any_size();
     mode.card_of(version, random.below(2048) as u16, serial)
 }
@@ -168,6 +180,11 @@ pub fn all_bytes_3(version: Version, mode: Mode, random: &mut Random) -> Vec<Vec
     (0..=255).map(with).collect()
 }
 
+/// Fourth bytes with every count of blocks and every copy code.
+pub fn all_counts() -> impl Iterator<Item = u8> {
+    (0..32).map(|counts| counts << 3)
+}
+
 /// A frame control, whose counts are one and one for good, and any payload.
 fn both_kinds(random: &mut Random) -> [Mode; 2] {
     let payloads: Vec<Mode> = modes().into_iter().filter(|mode| mode.kind > 0).collect();
@@ -311,6 +328,30 @@ pub fn write_systematic(checker: &mut Checker) {
         write_all_modes(checker, version);
         for mode in both_kinds(&mut checker.random) {
             write_all_counts(checker, mode, version);
+            write_copies(checker, mode, version);
+        }
+    }
+    for mode in copied_modes() {
+        for version in Version::ALL {
+            let fields = fields_of(mode, version, &mut checker.random);
+            checker.card_write(&fields, version.bytes());
+        }
+    }
+}
+
+/// Every count of copies with one block and with two, and every room: 3 goes before 5, and 5 before
+/// 11.
+fn write_copies(checker: &mut Checker, mode: Mode, version: Version) {
+    for copies in COPY_NUM {
+        for blocks in [1, 2] {
+            for room in 0..=13 {
+                let (taps, serial) = (checker.random.below(2048) as u16, checker.random.word());
+                let fields = Fields {
+                    blocks,
+                    ..mode.copied(copies).fields(version, taps, serial)
+                };
+                checker.card_write(&fields.to_array(), room);
+            }
         }
     }
 }
@@ -368,7 +409,7 @@ fn write_all_counts(checker: &mut Checker, mode: Mode, version: Version) {
 
 pub fn write_random(checker: &mut Checker) {
     let random = &mut checker.random;
-    let (mode, version) = (random.pick(&modes()), any_version(random));
+    let (mode, version) = (any_mode_of(Version::Two, random), any_version(random));
     let mut fields = fields_of(mode, version, random);
     for _ in 0..random.below(4) {
         let field = random.below(CARD_FIELDS);
@@ -383,7 +424,7 @@ pub fn write_random(checker: &mut Checker) {
 const ASKED: [u64; 7] = [0, 1, 2, 3, 16, (1 << 32) + 1, u64::MAX];
 
 /// A good card by what the papers say of it whatever the reference does: it comes back from its own
-/// version as it is, and from the other one the same.
+/// version as it is, and from the other one the same, or does not go there.
 fn there_and_back(checker: &mut Checker, card: &[u8], version: Version) {
     let (here, there) = (version, version.other());
     let done = (Report::done(here.bytes()), card.to_vec());
@@ -393,7 +434,15 @@ fn there_and_back(checker: &mut Checker, card: &[u8], version: Version) {
         || format!("card {card:02x?} moved to its own version"),
         "a card of the version asked for did not come back as it is",
     );
-    let (_, moved) = checker.card_move(card, there.number(), there.bytes());
+    let (report, moved) = checker.card_move(card, there.number(), there.bytes());
+    if version == Version::Two && card[3] != 0 {
+        checker.claim(
+            report == Report::refused(11, 0),
+            || format!("card {card:02x?} moved to version 1"),
+            "a card that says more copies was not refused by 11",
+        );
+        return;
+    }
     let back = checker.card_move(&moved, here.number(), here.bytes());
     checker.claim(
         back == done,
@@ -413,7 +462,7 @@ fn some_cards(random: &mut Random) -> Vec<Vec<u8>> {
         }
     }
     for (fields, bytes) in [
-        (SECOND_EXAMPLE, &[0x01, 0x28, 0x30, 0x40][..]),
+        (SECOND_EXAMPLE, &[0x01, 0x08, 0x28, 0x30, 0x40, 0x48][..]),
         (EXAMPLE, &[0x01, 0xFF]),
     ] {
         let card = card::pack(&fields, Version::Two);
@@ -424,8 +473,8 @@ fn some_cards(random: &mut Random) -> Vec<Vec<u8>> {
 }
 
 pub fn move_systematic(checker: &mut Checker) {
-    for mode in modes() {
-        for version in Version::ALL {
+    for mode in all_modes() {
+        for &version in mode.versions() {
             let taps = checker.random.below(2048) as u16;
             let card = mode.card_of(version, taps, checker.random.word_of_any_size());
             there_and_back(checker, &card, version);
@@ -452,6 +501,16 @@ pub fn move_systematic(checker: &mut Checker) {
     for mode in both_kinds(&mut checker.random) {
         for card in all_bytes_3(Version::Two, mode, &mut checker.random) {
             move_to_either(checker, &card);
+        }
+        // 3 goes before 5, and 5 before 11.
+        for counts in all_counts() {
+            let fields = mode.fields(Version::Two, 731, checker.random.word());
+            let card = with_byte(&card::pack(&fields, Version::Two), 3, counts);
+            for asked in [1, 2, 3] {
+                for room in [0, 10, 11, 12] {
+                    checker.card_move(&card, asked, room);
+                }
+            }
         }
     }
 }
@@ -530,9 +589,11 @@ mod tests {
             let spare = card_with(version, version.number(), 9, 1, &mut random);
             assert_eq!(number(&spare), 2);
         }
-        let bytes_3 = all_bytes_3(Version::Two, modes()[0], &mut random);
-        let taken = bytes_3.iter().filter(|card| number(card) == 0).count();
-        assert_eq!((bytes_3.len(), taken), (256, 1));
+        for (mode, counts) in [(modes()[0], 1), (modes()[1], 6)] {
+            let bytes_3 = all_bytes_3(Version::Two, mode, &mut random);
+            let taken = bytes_3.iter().filter(|card| number(card) == 0).count();
+            assert_eq!((bytes_3.len(), taken), (256, counts));
+        }
         let bytes_3 = all_bytes_3(Version::One, modes()[0], &mut random);
         assert!(bytes_3.iter().all(|card| number(card) == 10));
         // Eleven bytes of version 1 and twelve of version 2 are taken, of all lengths and versions.

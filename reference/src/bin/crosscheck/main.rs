@@ -15,7 +15,7 @@ use std::process::ExitCode;
 
 use checker::Checker;
 
-const DEFAULT_CALLS: u64 = 200_000;
+const DEFAULT_CALLS: u64 = 220_000;
 const DEFAULT_SEED: u64 = 11612;
 const USAGE: &str = "usage: crosscheck [--calls N] [--seed S] [--trace]";
 
@@ -42,7 +42,7 @@ const fn area(name: &'static str, systematic: Calls, random: Calls, weight: usiz
 /// For an area whose calls are all random.
 fn nothing(_: &mut Checker) {}
 
-const AREAS: [Area; 19] = [
+const AREAS: [Area; 21] = [
     area("card read", cards::read_systematic, cards::read_random, 3),
     area(
         "card write",
@@ -112,6 +112,18 @@ const AREAS: [Area; 19] = [
         "demand 3: refused by 7",
         entries::lost_bit_systematic,
         entries::lost_bit_random,
+        2,
+    ),
+    area(
+        "copies: comes back",
+        entries::copies_come_back_systematic,
+        entries::copies_come_back_random,
+        2,
+    ),
+    area(
+        "copies: refused by 7",
+        entries::copies_undecided_systematic,
+        entries::copies_undecided_random,
         2,
     ),
     area(

@@ -2,9 +2,10 @@
 
 use reference::card::{self, pack, Fields, Version};
 use reference::cases::{
-    all_bits, altered_and_lost, frame_controls, modes, with_byte, Mode, Random, Reception, AMPLE,
-    EXAMPLE, SECOND_EXAMPLE,
+    all_bits, altered_and_lost, copied_modes, frame_controls, modes, with_byte, Mode, Random,
+    Reception, AMPLE, CODINGS, EXAMPLE, SECOND_EXAMPLE,
 };
+use reference::copies::COPY_NUM;
 use reference::interface::{Entry, CARD_FIELDS, COORDINATES};
 
 use crate::labelled;
@@ -14,6 +15,8 @@ use crate::text::{coordinates, modulations};
 const SEED: u64 = 11612;
 /// The seed of the records for the second card.
 const SECOND_SEED: u64 = 2;
+/// The seed of the records for copied payloads.
+const COPIED_SEED: u64 = 6;
 
 /// Taps that the modes use in turn.
 const TAPS: [u16; 7] = [1095, 2047, 682, 1365, 731, 0, 1234];
@@ -55,6 +58,10 @@ pub fn records() -> Vec<Record> {
     maker.for_second_card(Maker::cards_moved);
     maker.points();
     maker.slices();
+    maker.random = Random::new(COPIED_SEED);
+    maker.copied_payloads();
+    maker.copied_cards_at_the_entries();
+    maker.copied_cards();
     maker.records
 }
 
@@ -95,7 +102,8 @@ impl Maker {
     fn sent(&mut self, reception: &Reception) {
         let mode = reception.mode;
         let (send, needed) = (Call::Entry(mode.entries().0), mode.items());
-        let room = self.random.pick(&[needed, needed + 1, AMPLE]);
+        let ample = needed.max(AMPLE);
+        let room = self.random.pick(&[needed, needed + 1, ample]);
         self.add(send, &reception.card, &reception.block, room);
     }
 
@@ -387,20 +395,100 @@ impl Maker {
         let card = slice_card(modulation, heard, at);
         self.add(Call::Slice, &card, &[], room);
     }
+
+    /// 72 bytes on every band, in every modulation and with every count of copies above one: sent,
+    /// and read as sent and with a damage. The damages take turns, so that each count has all.
+    fn copied_payloads(&mut self) {
+        let modes = copied_modes().into_iter().filter(|mode| mode.kind == 1);
+        for (n, mode) in modes.enumerate() {
+            let card = mode.card(TAPS[n % TAPS.len()], self.random.word());
+            let block = self.random.bytes(mode.bytes());
+            let reception = Reception::new(mode, card, block);
+            self.sent(&reception);
+            self.sent_wrongly(&reception);
+            self.read(&reception);
+
+            let counts = COPY_NUM.len() - 1;
+            let damage = COPIED_DAMAGES[(n % counts + n / counts) % COPIED_DAMAGES.len()];
+            let mut damaged = reception;
+            damage(&mut damaged, &mut self.random);
+            self.read(&damaged);
+        }
+    }
+
+    /// Every count of blocks and copy code at each entry, with an input and a room that are wrong
+    /// besides.
+    fn copied_cards_at_the_entries(&mut self) {
+        for (entry, mode) in AT_THE_ENTRIES {
+            for counts in 0..32 {
+                let card = with_byte_3(mode.fields(Version::Two, 731, 99), counts << 3);
+                self.add(Call::Entry(entry), &card, &[7; 5], 3);
+            }
+        }
+    }
+
+    /// Cards of every kind and rate with every count of copies above one: read, printed, written
+    /// and moved, both about the room of each version. Those of kind 0 are refused.
+    fn copied_cards(&mut self) {
+        for (n, (kind, rate)) in CODINGS.into_iter().enumerate() {
+            for &copies in &COPY_NUM[1..] {
+                let mode = Mode::new(n as u8 % 4, kind, rate, 1).copied(copies);
+                let (taps, serial) = (self.random.below(2048) as u16, self.random.word());
+                let card = pack(&mode.fields(Version::Two, taps, serial), Version::Two);
+                self.card(&card, TEXT_ROOM);
+                for version in Version::ALL {
+                    for room in [version.bytes() - 1, version.bytes()] {
+                        self.write(&mode.fields(version, taps, serial), room);
+                        self.move_to(&card, version.number(), room);
+                    }
+                }
+            }
+        }
+    }
 }
 
-/// Damage that leaves each bit a right majority: of frame control fewer copies of some bits than
-/// undo them, of payload one of the two copies of some bits.
+/// What is done to the items of a reception.
+type Damage = fn(&mut Reception, &mut Random);
+
+/// The damages of copied payloads.
+const COPIED_DAMAGES: [Damage; 5] = [
+    to_the_limit,
+    undecided,
+    parity_wrong,
+    unused_illegal,
+    unused_lost,
+];
+
+/// Every bit damaged to just below the count of copies.
+fn to_the_limit(reception: &mut Reception, random: &mut Random) {
+    reception.damage_all_bits(usize::from(reception.mode.copies) - 1, random);
+}
+
+/// Two illegal items on unused carriers, and a bit without a majority besides.
+fn unused_illegal(reception: &mut Reception, random: &mut Random) {
+    reception.lose_bit(0);
+    for index in random.some_of(&reception.mode.unused(), 2) {
+        reception.items[index] = random.within(3..256) as u8;
+    }
+}
+
+/// An unused carrier lost, the others holding anything legal, and some bits damaged but decided.
+fn unused_lost(reception: &mut Reception, random: &mut Random) {
+    decided(reception, random);
+    reception.fill_unused(random);
+    let bpc = reception.mode.layout().map_or(1, |layout| layout.bpc);
+    let carrier = random.pick(&reception.mode.unused()) / bpc;
+    reception.items[bpc * carrier..][..bpc].fill(2);
+}
+
+/// Damage that leaves each bit a right majority: of some bits with more than one copy fewer copies
+/// than undo them.
 fn decided(reception: &mut Reception, random: &mut Random) {
-    let mode = reception.mode;
-    let repeated = if mode.kind == 0 {
-        mode.coded()
-    } else {
-        mode.pad()
-    };
-    let bits: Vec<usize> = (0..repeated).collect();
+    let bits: Vec<usize> = (0..reception.mode.coded())
+        .filter(|&bit| reception.copies(bit).len() > 1)
+        .collect();
     for bit in random.some_of(&bits, 20) {
-        let weight = random.within(1..mode.copies(bit).len());
+        let weight = random.within(1..reception.copies(bit).len());
         let (wrong, lost) = altered_and_lost(weight, random);
         reception.damage_bit(bit, wrong, lost, random);
     }
@@ -411,7 +499,7 @@ fn undecided(reception: &mut Reception, random: &mut Random) {
     let mode = reception.mode;
     for _ in 0..2 {
         let bit = random.below(mode.coded());
-        if mode.copies(bit).len() > 1 && random.once_in(2) {
+        if reception.copies(bit).len() > 1 && random.once_in(2) {
             reception.tie_bit(bit, random);
         } else {
             reception.lose_bit(bit);
@@ -552,7 +640,7 @@ mod tests {
     #[test]
     fn the_file_is_small_and_the_same_on_every_run() {
         let bytes = to_bytes(&records());
-        assert!(bytes.len() < 6_000_000, "{} bytes", bytes.len());
+        assert!(bytes.len() <= 8_000_000, "{} bytes", bytes.len());
         assert!(bytes == to_bytes(&records()));
     }
 
@@ -577,8 +665,8 @@ mod tests {
             &[0, 5],
             &[0, 3, 4, 5, 6],
             &[0, 3, 5],
-            &[0, 2, 3, 5],
-            &[0, 1, 2, 10, 3, 5],
+            &[0, 2, 3, 5, 11],
+            &[0, 1, 2, 10, 3, 5, 11],
         ];
         let expected: HashSet<(u8, u8)> = numbers
             .iter()
@@ -588,17 +676,27 @@ mod tests {
         assert_eq!(seen, expected);
     }
 
+    /// A reception of a mode comes back in spite of a damage.
+    fn check_comes_back(mode: Mode, damage: Damage, random: &mut Random) {
+        let mut reception = Reception::random(mode, random);
+        damage(&mut reception, random);
+        assert_ne!(reception.items, reception.sent);
+        let mut back = vec![0; mode.bytes()];
+        let read = mode.entries().1;
+        let report = read.call(&reception.card, &reception.items, &mut back);
+        assert_eq!((report.number, back), (0, reception.block));
+    }
+
     #[test]
     fn decided_damage_comes_back() {
         let mut random = Random::new(1);
         for mode in modes() {
-            let mut reception = Reception::random(mode, &mut random);
-            decided(&mut reception, &mut random);
-            assert_ne!(reception.items, reception.sent);
-            let mut back = vec![0; mode.bytes()];
-            let read = mode.entries().1;
-            let report = read.call(&reception.card, &reception.items, &mut back);
-            assert_eq!((report.number, back), (0, reception.block));
+            check_comes_back(mode, decided, &mut random);
+        }
+        for mode in copied_modes() {
+            for damage in [decided, to_the_limit, unused_lost] {
+                check_comes_back(mode, damage, &mut random);
+            }
         }
     }
 
@@ -615,6 +713,29 @@ mod tests {
             for number in [0, 4, 6, 7, 8] {
                 assert!(numbers.contains(&number), "{mode:?} {number}");
             }
+        }
+    }
+
+    #[test]
+    fn copied_payloads_of_72_bytes_are_sent_and_read_and_each_count_is_read_in_each_way() {
+        let records = records();
+        let numbers = |entry: Entry, wanted: &dyn Fn(Mode) -> bool| -> HashSet<u8> {
+            let of_entry = |record: &&Record| record.call == Call::Entry(entry);
+            let of_mode = |record: &&Record| Mode::of(&record.card).is_some_and(wanted);
+            let met = records.iter().filter(of_entry).filter(of_mode);
+            met.map(|record| record.number).collect()
+        };
+        for mode in copied_modes().into_iter().filter(|mode| mode.kind == 1) {
+            for entry in [Entry::PayloadSend, Entry::PayloadRead] {
+                assert!(numbers(entry, &|met| met == mode).contains(&0), "{mode:?}");
+            }
+        }
+        for &copies in &COPY_NUM[1..] {
+            let of_count = |mode: Mode| mode.copies == copies;
+            let sent = numbers(Entry::PayloadSend, &of_count);
+            assert_eq!(sent, HashSet::from([0, 4, 5]));
+            let read = numbers(Entry::PayloadRead, &of_count);
+            assert_eq!(read, HashSet::from([0, 4, 5, 6, 7, 8]));
         }
     }
 

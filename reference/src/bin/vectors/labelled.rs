@@ -1,11 +1,13 @@
 //! The labelled records: the cases that 01 wants run by a program ("Bench checks"), for both
-//! versions of the card (02, T-03), and slices about the edges of what is lost (02, T-02), each
-//! under a name to look for.
+//! versions of the card (02, T-03), slices about the edges of what is lost (02, T-02), and copied
+//! payloads (02, T-06), each under a name to look for.
 
 use reference::card::{self, pack, Fields, Version};
 use reference::cases::{
-    frame_controls, modes, Mode, Random, Reception, EXAMPLE, MODULATION_NAMES, SECOND_EXAMPLE,
+    frame_controls, modes, with_byte, Mode, Random, Reception, EXAMPLE, MODULATION_NAMES,
+    SECOND_EXAMPLE,
 };
+use reference::copies::COPY_NUM;
 use reference::interface::{Entry, CARD_FIELDS};
 use reference::points::{
     BPSK, BPSK_EIGHTH, BPSK_FACTOR, QAM16, QAM16_EIGHTH, QAM16_FACTOR, QAM16_HIGH_END,
@@ -35,6 +37,16 @@ const SECOND_PAYLOADS: [Mode; 5] = [
     Mode::new(3, 4, 0, 1),
     PADDED,
 ];
+/// A payload of 72 bytes with each count of copies above one, on every band and in every modulation.
+const COPIED: [Mode; 5] = [
+    PAYLOAD.copied(2),
+    Mode::new(3, 1, 0, 0).copied(4),
+    Mode::new(1, 1, 0, 0).copied(5),
+    PAYLOAD.copied(7),
+    Mode::new(2, 1, 0, 2).copied(11),
+];
+/// A payload with the most items.
+const LONGEST: Mode = Mode::new(3, 4, 0, 2).copied(11);
 
 /// All labelled records.
 pub fn records() -> Vec<Record> {
@@ -71,6 +83,21 @@ pub fn records() -> Vec<Record> {
     }
     cases.pad_copies();
     cases.slices();
+    cases.copies_written();
+    cases.copies_moved();
+    cases.copy_codes();
+    for mode in COPIED {
+        for good in both_ways(Version::Two, mode) {
+            cases.lengths_and_rooms(&good);
+        }
+    }
+    for good in both_ways(Version::Two, LONGEST) {
+        cases.done(&good);
+    }
+    for mode in COPIED {
+        cases.copied_bits(mode);
+    }
+    cases.unused_carriers();
     cases.0
 }
 
@@ -171,13 +198,13 @@ const REFUSED_ON_12_BYTES: [&[Change]; 10] = [
     &[(MODULATION, 3)],
 ];
 
-/// Fourth bytes of version 2 that are refused: all copy codes and block counts that say more than
-/// one or nothing, each bit of the padding, and padding beside a code.
-const REFUSED_BYTES_3: [u8; 14] = [
+/// Fourth bytes of version 2 other than one and one: all copy codes and block counts that say more
+/// or nothing, each bit of the padding, and padding beside a code.
+const OTHER_BYTES_3: [u8; 14] = [
     0x08, 0x10, 0x18, 0x20, 0x28, 0x30, 0x38, 0x40, 0x80, 0xC0, 0x01, 0x02, 0x04, 0x39,
 ];
 
-/// Counts that are not one: not defined, or said by no bits of theirs.
+/// Counts other than one and one: defined, not defined, or said by no bits of theirs.
 const OTHER_COUNTS: [&[Change]; 20] = [
     &[(BLOCKS, 0)],
     &[(BLOCKS, 2)],
@@ -275,15 +302,15 @@ fn second_card_of(length: usize, good: Fields) -> Named {
 }
 
 /// Cards that are refused because there are two versions, or that are of version 2: lengths,
-/// versions, spare bits, modes and fourth bytes.
-fn second_refused() -> Vec<Named> {
+/// versions, spare bits, modes and fourth bytes. Those that say more copies alone are taken.
+fn second_others() -> Vec<Named> {
     let mut cards = vec![card_of(13, pack(&GOOD, Version::One))];
     cards.extend([10, 13].map(|length| second_card_of(length, GOOD)));
     let eleven = REFUSED_ON_11_BYTES.iter();
     cards.extend(eleven.map(|changes| on_bytes(Version::One, GOOD, changes)));
     let twelve = REFUSED_ON_12_BYTES.iter().chain(&NOT_TOGETHER);
     cards.extend(twelve.map(|changes| on_bytes(Version::Two, GOOD, changes)));
-    cards.extend(REFUSED_BYTES_3.map(|byte| twelve_bytes_with(2, GOOD, byte)));
+    cards.extend(OTHER_BYTES_3.map(|byte| twelve_bytes_with(2, GOOD, byte)));
     let of_first = [0x01, 0x08, 0x38, 0xC0, 0xFF];
     cards.extend(of_first.map(|byte| twelve_bytes_with(1, GOOD, byte)));
     let of_kind_0 = on_bytes(Version::Two, GOOD, &[(KIND, 0)]);
@@ -397,6 +424,22 @@ const OF_3_CARRIERS: [Damage; 4] = [
     (1, 1, "wrong on 1 of 3 carriers, another lost"),
 ];
 
+/// Numbers of wrong and lost copies, of so many: one copy decides, and none does.
+const fn about_a_tie(copies: usize) -> [(usize, usize); 2] {
+    [
+        ((copies - 1) / 2, (copies - 1) % 2),
+        (copies / 2, copies % 2),
+    ]
+}
+
+fn damage_name(wrong: usize, lost: usize, copies: usize) -> String {
+    match (wrong, lost) {
+        (0, _) => format!("{lost} of {copies} copies lost"),
+        (_, 0) => format!("{wrong} of {copies} copies wrong"),
+        (_, _) => format!("{wrong} of {copies} copies wrong, {lost} lost"),
+    }
+}
+
 // Coordinates by their size.
 
 /// A size and its name.
@@ -504,8 +547,14 @@ fn name(mode: Mode, way: &str) -> String {
 }
 
 /// A way on a mode with a card of a version, by name. With version 2 a payload's band and
-/// modulation are left out: a label has no room for them.
+/// modulation are left out, and with more copies its version, kind and rate: a label has no room
+/// for them.
 fn name_of(version: Version, mode: Mode, way: &str) -> String {
+    if mode.copies > 1 {
+        let (what, copies, band) = (words(mode).0, mode.copies, mode.band);
+        let modulation = mode.modulation_name();
+        return format!("{what} {way}, {copies} copies, band {band}, {modulation}");
+    }
     let way_of_second = format!("{way}, version 2");
     match version {
         Version::One => name(mode, way),
@@ -568,7 +617,7 @@ impl Cases {
                 self.card_read(&format!("{label}, room of {room} fields"), card, room);
             }
         }
-        for (label, card) in second_refused().into_iter().chain(second_taken()) {
+        for (label, card) in second_others().into_iter().chain(second_taken()) {
             self.card_read(&label, &card, CARD_FIELDS);
         }
     }
@@ -603,7 +652,7 @@ impl Cases {
         let [_, example] = examples();
         self.printed_about(&example);
         self.printed_about(&eleven_bytes(GOOD, &[(VERSION, 2)]));
-        for card in second_refused().iter().chain(&second_taken()) {
+        for card in second_others().iter().chain(&second_taken()) {
             self.card_printed(card, TEXT_ROOM, "");
         }
     }
@@ -701,7 +750,8 @@ impl Cases {
         }
     }
 
-    /// Cards and versions asked for that are refused, one cause at a time and two at once.
+    /// Cards and versions asked for that are refused, one cause at a time and two at once; also
+    /// cards that say more copies, which move to version 2 alone.
     fn cards_not_moved(&mut self) {
         let needed = Version::Two.bytes();
         for example in examples() {
@@ -713,7 +763,7 @@ impl Cases {
         let mut cards = [0, 10, 12, 40].map(example_of).to_vec();
         let eleven = REFUSED.iter().chain(&NOT_TOGETHER);
         cards.extend(eleven.map(|changes| eleven_bytes(GOOD, changes)));
-        cards.extend(second_refused());
+        cards.extend(second_others());
         for card in &cards {
             for version in [1, 2, 3] {
                 self.moved(card, version, needed, "");
@@ -820,10 +870,18 @@ impl Cases {
         }
     }
 
+    /// An entry that does its work, with exact room.
+    fn done(&mut self, good: &Good) {
+        let [_, exact, _] = good.input_names();
+        let label = format!("{}, {exact}, exact room", good.name);
+        let call = Call::Entry(good.entry);
+        self.add(&label, call, &good.card, &good.input, good.room);
+    }
+
     /// A reception read with so much room.
     fn read(&mut self, reception: &Reception, what: &str, room: usize) {
         let mode = reception.mode;
-        let label = format!("{}, {what}", name(mode, "back"));
+        let label = format!("{}, {what}", name_of(mode.versions()[0], mode, "back"));
         let call = Call::Entry(mode.entries().1);
         self.add(&label, call, &reception.card, &reception.items, room);
     }
@@ -849,7 +907,7 @@ impl Cases {
     /// A bit of frame control about the limit of its majority.
     fn copies(&mut self, rare: &Rare) {
         let (mode, bit) = (Mode::frame_control(rare.band), rare.bit);
-        let copies = mode.copies(bit);
+        let copies = mode.items_of(bit);
         for &(wrong, lost, what) in rare.damages {
             let mut damaged = reception(mode);
             damaged.damage_items(&copies[..wrong + lost], wrong);
@@ -864,7 +922,7 @@ impl Cases {
 
     /// The last bit that a payload's pad repeats, and the first that it doesn't.
     fn pad_copies(&mut self) {
-        let pad = PADDED.pad();
+        let pad = PADDED.repeated();
         for (bit, wrong, what) in [
             (pad - 1, 0, "1 of 2 copies lost"),
             (pad - 1, 1, "1 of 2 copies wrong"),
@@ -875,6 +933,118 @@ impl Cases {
             damaged.damage_items(&[bit], wrong);
             self.read(&damaged, &format!("bit {bit}, {what}"), PADDED.bytes());
         }
+    }
+
+    /// Counts of copies written about the room of each version, where 5 goes before 11; then what
+    /// goes before both.
+    fn copies_written(&mut self) {
+        for copies in COPY_NUM[1..].iter().map(|&copies| copies.into()) {
+            let second = [(VERSION, 2), (COPIES, copies)];
+            for (changes, rooms) in [(&second[1..], [10, 11]), (&second, [11, 12])] {
+                for room in rooms {
+                    self.written(changed(GOOD, changes), room, &room_of(room));
+                }
+            }
+        }
+        for wrong in [(SPARE, 1), (KIND, 0), (BLOCKS, 2)] {
+            let fields = changed(GOOD, &[wrong, (COPIES, 2)]);
+            self.written(fields, 10, &room_of(10));
+        }
+    }
+
+    /// Cards that say more copies moved about the room of each version, likewise.
+    fn copies_moved(&mut self) {
+        for copies in COPY_NUM[1..].iter().map(|&copies| copies.into()) {
+            let card = on_bytes(Version::Two, GOOD, &[(COPIES, copies)]);
+            for (version, rooms) in [(1, [10, 11]), (2, [11, 12])] {
+                for room in rooms {
+                    self.moved(&card, version, room, &room_of(room));
+                }
+            }
+            self.moved(&card, 3, 10, &room_of(10));
+        }
+        for wrong in [(SPARE, 1), (KIND, 0), (BLOCKS, 2)] {
+            let card = on_bytes(Version::Two, GOOD, &[wrong, (COPIES, 2)]);
+            self.moved(&card, 1, 10, &room_of(10));
+        }
+    }
+
+    /// Every copy code at every entry, with the input and the room that it asks for, or those of
+    /// one copy where it is refused; then a code beside more blocks.
+    fn copy_codes(&mut self) {
+        for mode in [Mode::frame_control(3), PAYLOAD] {
+            for code in 0..8u8 {
+                let copies = match COPY_NUM.get(usize::from(code)) {
+                    Some(&copies) if mode.kind > 0 => copies,
+                    _ => 1,
+                };
+                for good in both_ways(Version::Two, mode.copied(copies)) {
+                    let card = with_byte(&good.card, 3, code << 3);
+                    self.card_at(&good, &(format!("copy code {code}"), card));
+                }
+            }
+            for good in both_ways(Version::Two, mode) {
+                let card = with_byte(&good.card, 3, 0x48);
+                self.card_at(&good, &("2 blocks with copy code 1".to_string(), card));
+            }
+        }
+    }
+
+    /// The last bit of a copied payload: one copy left, one that decides it, tied and all wrong.
+    /// Then, where pads give it a copy more, the first bit decided by one copy and tied.
+    fn copied_bits(&mut self, mode: Mode) {
+        let mut last = vec![(0, usize::from(mode.copies) - 1)];
+        last.extend(about_a_tie(mode.copies.into()));
+        last.push((mode.copies.into(), 0));
+        // Of two copies one lost is the same as one left.
+        last.dedup();
+        self.copied_bit(mode, mode.coded() - 1, &last);
+        if mode.repeated() > 0 {
+            self.copied_bit(mode, 0, &about_a_tie(usize::from(mode.copies) + 1));
+        }
+    }
+
+    /// A bit of a copied payload with so many copies wrong and so many lost.
+    fn copied_bit(&mut self, mode: Mode, bit: usize, damages: &[(usize, usize)]) {
+        let items = mode.items_of(bit);
+        for &(wrong, lost) in damages {
+            let mut damaged = reception_of(Version::Two, mode);
+            damaged.damage_items(&items[..wrong + lost], wrong);
+            let what = damage_name(wrong, lost, items.len());
+            self.read(&damaged, &format!("bit {bit}, {what}"), mode.bytes());
+        }
+    }
+
+    /// Items of unused carriers: legal ones have no vote, and of illegal ones the lowest is named.
+    fn unused_carriers(&mut self) {
+        let [mode, ..] = COPIED;
+        let (good, unused) = (reception_of(Version::Two, mode), mode.unused());
+        let (first, last) = (unused[0], mode.items() - 1);
+        for (items, item, what) in [
+            (&unused[..1], 1, format!("unused item {first} of 1")),
+            (&unused[..1], 2, format!("unused item {first} of 2")),
+            (&unused[..1], 3, format!("unused item {first} of 3")),
+            (&[last], 255, format!("unused item {last} of 255")),
+            (&unused, 1, "all unused items of 1".to_string()),
+            (&unused, 2, "all unused items of 2".to_string()),
+            (
+                &[first - 1, first],
+                9,
+                format!("items {} and {first} of 9", first - 1),
+            ),
+        ] {
+            let mut damaged = good.clone();
+            for &index in items {
+                damaged.items[index] = item;
+            }
+            self.read(&damaged, &what, mode.bytes());
+        }
+        let mut damaged = good;
+        damaged.lose_bit(0);
+        for index in unused {
+            damaged.items[index] = 1;
+        }
+        self.read(&damaged, "bit 0 lost, all unused items of 1", mode.bytes());
     }
 
     /// A carrier heard at (i, q).
@@ -937,7 +1107,7 @@ mod tests {
         }
     }
 
-    /// By hand from 01 and 02 (T-01, T-03).
+    /// By hand from 01, 02 (T-01, T-03, T-06) and D27.
     const ANSWERS: &str = "\
 example card, room of 7 fields: 5 10
 example card, room of 8 fields: 5 10
@@ -977,11 +1147,11 @@ kind 7 on 12 bytes: 3 0
 modulation 3 on 12 bytes: 3 0
 kind 3 with rate 1 on 12 bytes: 3 0
 kind 0 with modulation 2 on 12 bytes: 3 0
-version 2 on 12 bytes, byte 3 of 08: 3 0
-version 2 on 12 bytes, byte 3 of 10: 3 0
-version 2 on 12 bytes, byte 3 of 18: 3 0
-version 2 on 12 bytes, byte 3 of 20: 3 0
-version 2 on 12 bytes, byte 3 of 28: 3 0
+version 2 on 12 bytes, byte 3 of 08: 0 10
+version 2 on 12 bytes, byte 3 of 10: 0 10
+version 2 on 12 bytes, byte 3 of 18: 0 10
+version 2 on 12 bytes, byte 3 of 20: 0 10
+version 2 on 12 bytes, byte 3 of 28: 0 10
 version 2 on 12 bytes, byte 3 of 30: 3 0
 version 2 on 12 bytes, byte 3 of 38: 3 0
 version 2 on 12 bytes, byte 3 of 40: 3 0
@@ -1015,6 +1185,7 @@ example card of version 2 printed, room of 104 bytes: 0 103
 version 2 on 11 bytes printed, room of 10 bytes: 5 11
 version 2 on 11 bytes printed, room of 11 bytes: 0 11
 version 2 on 12 bytes, byte 3 of 01 printed: 0 10
+version 2 on 12 bytes, byte 3 of 28 printed: 0 104
 version 2 on 12 bytes, byte 3 of 38 printed: 0 10
 version 1 on 12 bytes, byte 3 of FF printed: 0 11
 serial 0 on 12 bytes printed: 0 88
@@ -1045,18 +1216,18 @@ version 2 with serial 18446744073709551615 written: 0 12
 blocks 0 written: 3 0
 blocks 2 written: 3 0
 blocks 5 written: 3 0
-copies 2 written: 3 0
+copies 2 written: 11 0
 copies 3 written: 3 0
-copies 11 written: 3 0
+copies 11 written: 11 0
 copies 12 written: 3 0
 blocks 4 with copies 11 written: 3 0
 version 2 with blocks 2 written: 3 0
 version 2 with blocks 5 written: 3 0
 version 2 with blocks 4294967297 written: 3 0
 version 2 with copies 0 written: 3 0
-version 2 with copies 2 written: 3 0
+version 2 with copies 2 written: 0 12
 version 2 with copies 3 written: 3 0
-version 2 with copies 11 written: 3 0
+version 2 with copies 11 written: 0 12
 version 2 with blocks 4 and copies 11 written: 3 0
 kind 0 with blocks 2 written: 3 0
 kind 0 with copies 2 written: 3 0
@@ -1111,9 +1282,10 @@ kind 5 moved to version 3: 2 0
 kind 5 moved to version 1, no room: 3 0
 kind 5 on 12 bytes moved to version 1: 3 0
 version 2 on 12 bytes, byte 3 of 01 moved to version 1: 2 0
-version 2 on 12 bytes, byte 3 of 08 moved to version 1: 3 0
-version 2 on 12 bytes, byte 3 of 08 moved to version 2: 3 0
+version 2 on 12 bytes, byte 3 of 08 moved to version 1: 11 0
+version 2 on 12 bytes, byte 3 of 08 moved to version 2: 0 12
 version 2 on 12 bytes, byte 3 of 08 moved to version 3: 2 0
+version 2 on 12 bytes, byte 3 of 28 moved to version 1, no room: 5 11
 version 2 on 12 bytes, byte 3 of 40 moved to version 1, no room: 3 0
 version 1 on 12 bytes at payload out: 10 0
 version 2 on 11 bytes at frame control back: 10 0
@@ -1123,6 +1295,9 @@ version 2 with spare 1 on 11 bytes at payload out: 2 0
 version 1 with spare 1 on 12 bytes at frame control out: 2 0
 spare 1 on 12 bytes at frame control back: 2 0
 kind 5 on 12 bytes at payload back: 3 0
+version 2 on 12 bytes, byte 3 of 08 at payload out: 5 2466
+version 2 on 12 bytes, byte 3 of 28 at payload back: 4 1644
+version 2 on 12 bytes, byte 3 of 28 at frame control back: 3 0
 version 2 on 12 bytes, byte 3 of 30 at frame control out: 3 0
 version 2 on 12 bytes, byte 3 of 40 at payload out: 3 0
 version 2 on 12 bytes, byte 3 of 04 at payload back: 2 0
@@ -1190,6 +1365,62 @@ frame control back, band 3, bit 1, wrong on 1 of 3 carriers, another lost: 7 1
 payload back, band 0, kind 4, rate 16/18, QPSK, bit 251, 1 of 2 copies lost: 0 520
 payload back, band 0, kind 4, rate 16/18, QPSK, bit 251, 1 of 2 copies wrong: 7 251
 payload back, band 0, kind 4, rate 16/18, QPSK, bit 252, its only copy lost: 7 252
+copies 2 written, room of 10 bytes: 5 11
+copies 2 written, room of 11 bytes: 11 0
+copies 11 written, room of 11 bytes: 11 0
+version 2 with copies 7 written, room of 11 bytes: 5 12
+version 2 with copies 7 written, room of 12 bytes: 0 12
+spare 1 with copies 2 written, room of 10 bytes: 2 0
+kind 0 with copies 2 written, room of 10 bytes: 3 0
+blocks 2 with copies 2 written, room of 10 bytes: 3 0
+copies 4 on 12 bytes moved to version 1, room of 10 bytes: 5 11
+copies 4 on 12 bytes moved to version 1, room of 11 bytes: 11 0
+copies 5 on 12 bytes moved to version 2, room of 11 bytes: 5 12
+copies 5 on 12 bytes moved to version 2, room of 12 bytes: 0 12
+copies 11 on 12 bytes moved to version 3, room of 10 bytes: 2 0
+spare 1 with copies 2 on 12 bytes moved to version 1, room of 10 bytes: 2 0
+kind 0 with copies 2 on 12 bytes moved to version 1, room of 10 bytes: 3 0
+blocks 2 with copies 2 on 12 bytes moved to version 1, room of 10 bytes: 3 0
+copy code 0 at frame control out: 0 1176
+copy code 1 at frame control out: 3 0
+copy code 5 at frame control back: 3 0
+copy code 7 at frame control back: 3 0
+copy code 0 at payload out: 0 1644
+copy code 1 at payload out: 0 2466
+copy code 2 at payload back: 0 72
+copy code 3 at payload out: 0 6576
+copy code 4 at payload back: 0 72
+copy code 5 at payload out: 0 13152
+copy code 6 at payload out: 3 0
+copy code 7 at payload back: 3 0
+2 blocks with copy code 1 at payload back: 3 0
+payload out, 2 copies, band 0, QPSK, block of 71 bytes: 4 71
+payload out, 2 copies, band 0, QPSK, block of 72 bytes, exact room: 0 2466
+payload out, 4 copies, band 3, BPSK, room one short: 5 4704
+payload out, 5 copies, band 1, BPSK, room one more: 0 5895
+payload back, 7 copies, band 0, QPSK, one item less: 4 8219
+payload back, 11 copies, band 2, 16QAM, one item more: 4 12817
+payload back, 11 copies, band 2, 16QAM, room one short: 5 72
+payload out, 11 copies, band 3, 16QAM, block of 520 bytes, exact room: 0 101920
+payload back, 11 copies, band 3, 16QAM, all items, exact room: 0 520
+payload back, 2 copies, band 0, QPSK, bit 1151, 1 of 2 copies lost: 0 72
+payload back, 2 copies, band 0, QPSK, bit 1151, 1 of 2 copies wrong: 7 1151
+payload back, 2 copies, band 0, QPSK, bit 0, 1 of 3 copies wrong: 0 72
+payload back, 2 copies, band 0, QPSK, bit 0, 1 of 3 copies wrong, 1 lost: 7 0
+payload back, 4 copies, band 3, BPSK, bit 1151, 1 of 4 copies wrong, 1 lost: 0 72
+payload back, 4 copies, band 3, BPSK, bit 1151, 2 of 4 copies wrong: 7 1151
+payload back, 5 copies, band 1, BPSK, bit 1151, 2 of 5 copies wrong: 0 72
+payload back, 5 copies, band 1, BPSK, bit 1151, 2 of 5 copies wrong, 1 lost: 7 1151
+payload back, 5 copies, band 1, BPSK, bit 0, 3 of 6 copies wrong: 7 0
+payload back, 7 copies, band 0, QPSK, bit 0, 4 of 8 copies wrong: 7 0
+payload back, 11 copies, band 2, 16QAM, bit 1151, 10 of 11 copies lost: 0 72
+payload back, 11 copies, band 2, 16QAM, bit 1151, 5 of 11 copies wrong, 1 lost: 7 1151
+payload back, 2 copies, band 0, QPSK, unused item 816 of 1: 0 72
+payload back, 2 copies, band 0, QPSK, unused item 816 of 2: 0 72
+payload back, 2 copies, band 0, QPSK, unused item 816 of 3: 6 816
+payload back, 2 copies, band 0, QPSK, unused item 2465 of 255: 6 2465
+payload back, 2 copies, band 0, QPSK, items 815 and 816 of 9: 6 815
+payload back, 2 copies, band 0, QPSK, bit 0 lost, all unused items of 1: 7 0
 ";
 
     #[test]
@@ -1217,6 +1448,10 @@ kind 0 on 12 bytes moved to version 1: 20188e000020000000000001 10188e0020000000
 taps 2047 on 12 bytes moved to version 1: 221ffe000020000000000001 121ffe0020000000000001
 version 1 on 12 bytes moved to version 2: 12588e002000000000000100 nothing
 version 2 on 12 bytes, byte 3 of 28 moved to version 1: 22188e280020000000000001 nothing
+version 2 on 12 bytes, byte 3 of 28 moved to version 2: \
+22188e280020000000000001 22188e280020000000000001
+copies 7 on 12 bytes moved to version 2, room of 12 bytes: \
+22188e200020000000000001 22188e200020000000000001
 ";
 
     #[test]

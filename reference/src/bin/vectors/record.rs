@@ -8,8 +8,8 @@ use reference::{big_endian, Report};
 
 pub const MAX_LABEL: usize = 80;
 pub const MAX_CARD: usize = 8 * CARD_FIELDS;
-pub const MAX_INPUT: usize = 10_000;
-pub const MAX_OUTPUT: usize = 10_000;
+pub const MAX_INPUT: usize = 131_072;
+pub const MAX_OUTPUT: usize = 131_072;
 
 /// The calls by their numbers.
 #[derive(Clone, Copy, Debug, PartialEq, Eq)]
@@ -157,7 +157,7 @@ impl Record {
         bytes.push(self.call.number());
         append_with_length(bytes, &self.card);
         append_with_length(bytes, &self.input);
-        bytes.extend((self.room as u16).to_be_bytes());
+        append_length(bytes, self.room);
         bytes.push(self.number);
         bytes.extend(self.value.to_be_bytes());
         append_with_length(bytes, &self.output);
@@ -171,7 +171,7 @@ impl Record {
             call: *Call::ALL.get(take_number(bytes, 1)? as usize)?,
             card: take_with_length(bytes)?,
             input: take_with_length(bytes)?,
-            room: take_number(bytes, 2)? as usize,
+            room: take_length(bytes)?,
             number: take_number(bytes, 1)? as u8,
             value: take_number(bytes, 8)?,
             output: take_with_length(bytes)?,
@@ -180,8 +180,12 @@ impl Record {
     }
 }
 
+fn append_length(bytes: &mut Vec<u8>, length: usize) {
+    bytes.extend((length as u32).to_be_bytes());
+}
+
 fn append_with_length(bytes: &mut Vec<u8>, part: &[u8]) {
-    bytes.extend((part.len() as u16).to_be_bytes());
+    append_length(bytes, part.len());
     bytes.extend(part);
 }
 
@@ -195,9 +199,13 @@ fn take_number(bytes: &mut &[u8], length: usize) -> Option<u64> {
     take(bytes, length).map(big_endian)
 }
 
+fn take_length(bytes: &mut &[u8]) -> Option<usize> {
+    take_number(bytes, 4).map(|length| length as usize)
+}
+
 fn take_with_length(bytes: &mut &[u8]) -> Option<Vec<u8>> {
-    let length = take_number(bytes, 2)?;
-    Some(take(bytes, length as usize)?.to_vec())
+    let length = take_length(bytes)?;
+    Some(take(bytes, length)?.to_vec())
 }
 
 /// A file's contents.
@@ -258,34 +266,56 @@ impl Display for Record {
 mod tests {
     use super::*;
     use reference::card::{pack, Version};
-    use reference::cases::{EXAMPLE, SECOND_EXAMPLE};
+    use reference::cases::{Mode, EXAMPLE, SECOND_EXAMPLE};
     use reference::interface::COORDINATES;
 
     #[test]
     fn a_record_is_as_the_table_says() {
         let record = Record::new("", Call::Map, &[0], &[1], 3);
-        let mut bytes = vec![0, 6, 0, 1, 0, 0, 1, 1, 0, 3, 0];
+        let mut bytes = vec![0, 6, 0, 0, 0, 1, 0, 0, 0, 0, 1, 1, 0, 0, 0, 3, 0];
         bytes.extend(2u64.to_be_bytes());
-        bytes.extend([0, 16]);
+        bytes.extend([0, 0, 0, 16]);
         bytes.extend(1f64.to_bits().to_be_bytes());
         bytes.extend([0; 8]);
         assert_eq!(to_bytes(&[record]), bytes);
 
         let record = Record::new("ten", Call::CardRead, &[1; 10], &[], CARD_FIELDS);
-        let mut bytes = vec![
-            3, b't', b'e', b'n', 4, 0, 10, 1, 1, 1, 1, 1, 1, 1, 1, 1, 1, 0, 0, 0, 10, 1,
-        ];
-        bytes.extend([0, 0, 0, 0, 0, 0, 0, 10, 0, 0]);
+        let mut bytes = vec![3, b't', b'e', b'n', 4, 0, 0, 0, 10];
+        bytes.extend([1; 10]);
+        bytes.extend([0, 0, 0, 0, 0, 0, 0, 10, 1]);
+        bytes.extend([0, 0, 0, 0, 0, 0, 0, 10, 0, 0, 0, 0]);
         assert_eq!(to_bytes(&[record]), bytes);
 
         let (first, asked) = (pack(&EXAMPLE, Version::One), 2u64.to_be_bytes());
         let record = Record::new("to 2", Call::CardMove, &first, &asked, 14);
-        let mut bytes = vec![4, b't', b'o', b' ', b'2', 9, 0, 11];
+        let mut bytes = vec![4, b't', b'o', b' ', b'2', 9, 0, 0, 0, 11];
         bytes.extend(&first);
-        bytes.extend([0, 8, 0, 0, 0, 0, 0, 0, 0, 2, 0, 14, 0]);
-        bytes.extend([0, 0, 0, 0, 0, 0, 0, 12, 0, 12]);
+        bytes.extend([0, 0, 0, 8, 0, 0, 0, 0, 0, 0, 0, 2, 0, 0, 0, 14, 0]);
+        bytes.extend([0, 0, 0, 0, 0, 0, 0, 12, 0, 0, 0, 12]);
         bytes.extend(pack(&SECOND_EXAMPLE, Version::Two));
         assert_eq!(to_bytes(&[record]), bytes);
+    }
+
+    #[test]
+    fn lengths_have_four_bytes_and_a_limit() {
+        let send = Call::Entry(Entry::PayloadSend);
+        let longest = Mode::new(3, 4, 0, 2).copied(11);
+        let record = Record::new("", send, &longest.card(0, 0), &[9; 520], 131_072);
+        let bytes = to_bytes(std::slice::from_ref(&record));
+        // Behind label and call: 12 bytes of card, 520 of input, the room, the answer.
+        assert_eq!(bytes[2 + 4 + 12..][..4], [0, 0, 2, 8]);
+        let room = 2 + 4 + 12 + 4 + 520;
+        assert_eq!(bytes[room..][..4], [0, 2, 0, 0]);
+        assert_eq!(bytes[room + 4..][..9], [0, 0, 0, 0, 0, 0, 1, 0x8E, 0x20]);
+        assert_eq!(bytes[room + 13..][..4], [0, 1, 0x8E, 0x20]);
+        assert_eq!(bytes.len(), room + 17 + 101_920);
+
+        assert_eq!(from_bytes(&bytes), Some(vec![record.clone()]));
+        let more_room = Record {
+            room: 131_073,
+            ..record
+        };
+        assert_eq!(from_bytes(&to_bytes(&[more_room])), None);
     }
 
     #[test]
