@@ -51,10 +51,11 @@ pub fn first_slot(l: Layout, k: usize) -> Slot
 {
     let n = l.symbols;
     let by = k / l.run % n;
+    let up = n - by;
     Slot {
         copy: k,
         place: 0,
-        group: (n - by) % n,
+        group: up % n,
     }
 }
 

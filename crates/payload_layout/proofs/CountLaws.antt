@@ -64,7 +64,7 @@ module _ (L : Layout) (s : Sound L) (b : ℕ) (coded : b < L .coded) where
       (sum-ext (L .pad) (λ y. hit k (L .coded + y)) (λ y. one (eqb (k * L .pad + y) b))
       (λ y l.
       let at : L .coded + y - L .coded ≡ y = omega arith in
-      rw (le-ltb (L .coded + y) (L .coded) (omega arith), at)))
+      rw (le-ltb (L .coded + y) (L .coded) (omega arith)) (ap (λ (z : ℕ). one (eqb (k * L .pad + z) b)) at)))
     where
       once : sum (L .coded) (λ x. one (eqb (0 + x) b)) ≡ 1
       once =

@@ -126,7 +126,7 @@ module _ (carriers copies : ℕ) (is : copyCode copies < 6) (enough : allInterle
           bits-pos = bits-pos;
           copies-pos = copies-pos copies is;
           run-pos = run-pos copies _ _ (copies-pos copies is);
-          symbols-pos = rw q (some x e);
+          symbols-pos = subst (λ (n : ℕ). zero < n) (sym q) (some x e);
           interleavers-pos = per-group-pos copies is;
           span-pos = span-pos;
           there = omega (arith, used-is, used-le);

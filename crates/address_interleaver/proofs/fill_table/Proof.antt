@@ -36,6 +36,15 @@ base-in c =
     let start = c .before .before .before in
     omega (arith, start .pre .4, row-within (c .before .loop .j) (start .args .span) (start .args .interleavers) (c .before .loop .inv .3))
 
+-- an interleaver has a small number, over all groups and in its own
+few : (c : tie.In-loop Inv-loop μ-loop) → (c .before .loop .k < 410) × (c .before .loop .j < 410)
+few c =
+    let start = c .before .before .before in
+    let span = start .args .span in (
+      omega (arith, c .loop-test .taken, start .pre .3, le-mul-of-pos-right {m = span} (start .args .count) (start .pre .1)),
+      omega (arith, c .before .loop .inv .3, start .pre .4, le-mul-of-pos-right {m = span} (start .args .interleavers) (start .pre .1)),
+    )
+
 loop-holds : tie.Need-loop-holds Inv-loop μ-loop
 loop-holds c = (search needs, sym (zero-mul (c .before .args .span)), sym (zero-mod (c .before .args .interleavers)), c .before .pre .0, refl, written-none _ _)
 
@@ -60,7 +69,7 @@ fill-interleaver-requires c κs =
     let start = turn .before .before .before in (
       start .pre .1,
       start .pre .2,
-      omega (arith, turn .loop-test .taken, start .pre .3, le-mul-of-pos-right {m = start .args .span} (start .args .count) (start .pre .1)),
+      omega (arith, few turn),
       omega (arith, base-in turn),
       simp (length-take, length-drop) (omega (arith, fits turn)),
     )

@@ -13,8 +13,8 @@ div-by c = search needs
 rem-by : tie.Need-rem-by
 rem-by c = search needs
 
-sub-t5 : tie.Need-sub-t5
-sub-t5 c = let s = c .before .pre .0 .laid .sound in omega (arith, mod-lt (c .before .args .k / c .before .args .l .run) (s .symbols-pos))
+sub-up : tie.Need-sub-up
+sub-up c = let s = c .before .pre .0 .laid .sound in omega (arith, mod-lt (c .before .args .k / c .before .args .l .run) (s .symbols-pos))
 
 rem-t6 : tie.Need-rem-t6
 rem-t6 c = search needs
@@ -27,4 +27,4 @@ returns c =
     )
 
 pub first-slot-spec : {M : Type 1} → statement M
-first-slot-spec = tie.close (tie.spec div-by rem-by sub-t5 rem-t6 returns)
+first-slot-spec = tie.close (tie.spec div-by rem-by sub-up rem-t6 returns)

@@ -167,7 +167,7 @@ returns c =
       written-all _ _ _ _ _
           (written-part (at .n) (symbolItems L - at .n) (λ i. sentOn L (λ b. getD (start .args .coded .now) b 0) (start .args .y * symbolItems L + i)) (λ _. 0) _ _ _ (at .inv .5)
           (λ i h. cleared L s (λ b. getD (start .args .coded .now) b 0) (start .args .y) (at .n + i) (omega arith) (omega (arith, full)))
-          (rw (at .inv .7) at (c .before .before .fill .ensures)))
+          (written-all _ _ _ _ _ (c .before .before .fill .ensures) (ap (λ (r : ℕ). r - at .n) (at .inv .7))))
           whole,
     )
 
