@@ -28,13 +28,13 @@ module _ (L : Layout) (z : Slotted L) where
   -- ---- the slot at which a walk stands
 
   module _ (y j : ℕ) (s : Slot) (hy : y < L .symbols) (hj : j < L .copies) (at : Standing L s) (no : slotNo L s ≡ y * L .copies + j) where
-    pub copy-in : s .copy < L .copies
-    copy-in =
-        let l : y * L .copies + j < L .symbols * L .copies = digits-lt {c = L .copies} hy hj in
-        lt-of-mul-lt-mul-right (L .symbols) (omega (arith, no, mul-comm (L .symbols) (L .copies)))
-
-    pub group-below : s .group < L .symbols
-    group-below = rw (at .group-is) (mod-lt _ (z .laid .sound .symbols-pos))
+    -- it names a copy and a group that there are
+    pub slot-in : (s .copy < L .copies) × (s .group < L .symbols)
+    slot-in =
+        let l : y * L .copies + j < L .symbols * L .copies = digits-lt {c = L .copies} hy hj in (
+          lt-of-mul-lt-mul-right (L .symbols) (omega (arith, no, mul-comm (L .symbols) (L .copies))),
+          rw (at .group-is) (mod-lt _ (z .laid .sound .symbols-pos)),
+        )
 
     copy-is : (y * L .copies + j) / L .symbols ≡ s .copy
     copy-is = ap (λ (t : ℕ). t / L .symbols) (sym no) ∙ digits-div (s .copy) (at .place-in)

@@ -17,6 +17,15 @@ use Rattle.payload_layout.specs.Layouts.{allInterleavers, groupInterleav
 use Rattle.payload_layout.proofs.SectionLaws.{one-interleaver, one-a-group}
 use Rattle.payload_layout.proofs.SectionLaws as section
 
+-- layouts of the same numbers
+same-layout : (carriers bits coded copies : ℕ) {symbols symbols′ pad pad′ run run′ interleavers interleavers′ span span′ step step′ : ℕ}
+    → symbols ≡ symbols′ → pad ≡ pad′ → run ≡ run′ → interleavers ≡ interleavers′ → span ≡ span′ → step ≡ step′
+    → _≡_ {A = Layout}
+    (record { carriers = carriers; bits = bits; symbols = symbols; coded = coded; pad = pad; copies = copies; run = run; interleavers = interleavers; span = span; step = step })
+    (record { carriers = carriers; bits = bits; symbols = symbols′; coded = coded; pad = pad′; copies = copies; run = run′; interleavers = interleavers′; span = span′; step = step′ })
+same-layout carriers bits coded copies y p r n s t =
+    λ i. record { carriers = carriers; bits = bits; symbols = y i; coded = coded; pad = p i; copies = copies; run = r i; interleavers = n i; span = s i; step = t i }
+
 -- ---- one copy, of S bits to a symbol and to a group
 
 module _ (S D : ℕ) (pos : 0 < S) where
@@ -91,20 +100,7 @@ one-made carriers bits coded pos =
     let symbols : (coded + bits * carriers - 1) / (bits * carriers) ≡ (coded + padBits (bits * usedOf carriers 1) (bits * groupOf carriers 1) coded) / (bits * groupOf carriers 1) =
     symbols-are (bits * carriers) coded pos ∙ ap₂ (λ (o g : ℕ). (coded + padBits o g coded) / g) O G in
     let run = sym (one-run (lastSymbolBits (bits * usedOf carriers 1) coded) (bits * groupOf carriers 1)) in
-    let interleavers = sym one-a-group in
-    let span = sym (one-span carriers) in
-    λ i. record {
-      carriers = carriers;
-      bits = bits;
-      symbols = symbols i;
-      coded = coded;
-      pad = pad i;
-      copies = 1;
-      run = run i;
-      interleavers = interleavers i;
-      span = span i;
-      step = 0;
-    }
+    same-layout carriers bits coded 1 symbols pad run (sym one-a-group) (sym (one-span carriers)) refl
 
 -- ---- more copies
 
@@ -160,15 +156,4 @@ copied-made carriers bits copies coded code group last run step c more g l r t =
     r ∙ ap (λ (k : ℕ). shiftRun copies k (G code)) l ∙ ap (λ (k : ℕ). shiftRun copies (lastSymbolBits (O k) coded) (G k)) c in
     let step′ : step ≡ cond (eqb copies 1) 0 (roundedDown (carriers / all (copyCode copies) / (2 * all (copyCode copies)))) =
     t ∙ ap (λ (k : ℕ). roundedDown (carriers / all k / (2 * all k))) c ∙ sym (ap (λ (b : Bool). cond b 0 (roundedDown (carriers / all (copyCode copies) / (2 * all (copyCode copies))))) (ne-eqb copies 1 more)) in
-    λ i. record {
-      carriers = carriers;
-      bits = bits;
-      symbols = symbols i;
-      coded = coded;
-      pad = pad i;
-      copies = copies;
-      run = run′ i;
-      interleavers = getD (1 ∷ 4 ∷ 2 ∷ 2 ∷ 2 ∷ 1 ∷ []) (c i) 0;
-      span = carriers / all (c i);
-      step = step′ i;
-    }
+    same-layout carriers bits coded copies symbols pad run′ (ap (λ (k : ℕ). getD (1 ∷ 4 ∷ 2 ∷ 2 ∷ 2 ∷ 1 ∷ []) k 0) c) (ap (λ (k : ℕ). carriers / all k) c) step′

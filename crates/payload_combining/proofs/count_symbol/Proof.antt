@@ -13,7 +13,7 @@ use Rattle.payload_layout.specs.Items.{carries}
 use Rattle.payload_copying.specs.Loops.Slots.{slotNo, Standing}
 use Rattle.payload_combining.specs.Loops.Groups.{middles}
 use Rattle.payload_copying.proofs.SlottedLaws.{group-few, carriers-few, symbol-few, items-rows}
-use Rattle.payload_copying.proofs.SymbolLaws.{used-bits, slot-within, copy-in, group-below}
+use Rattle.payload_copying.proofs.SymbolLaws.{used-bits, slot-within, slot-in}
 use Rattle.payload_combining.proofs.VoteLaws.{slot-more, symbol-done}
 use Rattle.payload_combining.proofs.count_symbol.Statement.{statement}
 use Rattle.payload_combining.proofs.count_symbol.Tie as tie
@@ -29,6 +29,14 @@ abbrev μ-loop : tie.MeasureT-loop
 -- a slot is within the items
 in-copies : (c : tie.In-loop Inv-loop μ-loop) → c .before .loop .j < c .before .before .before .before .before .before .before .before .before .args .l .copies
 in-copies c = omega (arith, c .loop-test .taken, c .before .loop .inv .8)
+
+-- the slot at which the walk stands
+standing : (c : tie.In-loop Inv-loop μ-loop)
+    → (c .before .loop .s .copy < c .before .before .before .before .before .before .before .before .before .args .l .copies) × (c .before .loop .s .group < c .before .before .before .before .before .before .before .before .before .args .l .symbols)
+standing c =
+    let start = c .before .before .before .before .before .before .before .before .before in
+    let at = c .before .loop in
+    slot-in (start .args .l) (start .pre .0 .0) (start .args .y) (at .j) (at .s) (start .pre .0 .1) (in-copies c) (at .inv .2) (at .inv .3)
 
 fits : (c : tie.In-loop Inv-loop μ-loop) → c .before .loop .n + groupBits (c .before .before .before .before .before .before .before .before .before .args .l) ≤ items (c .before .before .before .before .before .before .before .before .before .args .l)
 fits c =
@@ -97,8 +105,8 @@ count-slot-requires c κs =
     let j : at .j < L .copies = in-copies turn in (
       (
         s,
-        copy-in L s (start .args .y) (at .j) (at .s) (start .pre .0 .1) j (at .inv .2) (at .inv .3),
-        group-below L s (start .args .y) (at .j) (at .s) (start .pre .0 .1) j (at .inv .2) (at .inv .3),
+        standing turn .0,
+        standing turn .1,
         start .pre .0 .4,
         simp (length-take, length-drop) (omega (arith, fits turn, at .inv .7, start .pre .1 .0 .0)),
       ),
@@ -111,7 +119,7 @@ next-slot-requires c κs =
     let at = turn .before .loop in
     let start = c .before .before .before .before .before .before .before .before .before .before .before .before .before .before .before .before .before in
     let s = start .pre .0 .0 in
-    (s, at .inv .2, copy-in (start .args .l) s (start .args .y) (at .j) (at .s) (start .pre .0 .1) (in-copies turn) (at .inv .2) (at .inv .3))
+    (s, at .inv .2, standing turn .0)
 
 add-j : tie.Need-add-j Inv-loop μ-loop
 add-j c = omega (arith, in-copies (c .before .before .before .before .before .before .before .before .before), c .before .before .before .before .before .before .before .before .before .before .before .before .before .before .before .before .before .before .pre .0 .0 .laid .small .copies-in)

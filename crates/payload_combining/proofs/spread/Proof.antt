@@ -80,16 +80,16 @@ loop-less c = search needs
 
 loop-again : tie.Need-loop-again Inv-loop μ-loop
 loop-again c =
-    let copied = c .before .before in
-    let wide = copied .before .before in
-    let turn = wide .before .before in
-    let at = turn .before .loop in
-    let start = turn .before .before .before .before .before in (
+    let turn = c .before .before .before .before .before .before in
+    let start = turn .before .before .before .before .before in
+    let wide = c .before .before .before .before .wide in
+    let copied = c .before .before .copy-carrier in
+    let at = turn .before .loop in (
       search needs,
-      omega (arith, at .inv .1, row-next (at .p) (start .args .bits)),
-      copied .copy-carrier .ensures .long ∙ at .inv .2,
+      omega (arith, row-next (at .p) (start .args .bits), at .inv .1),
+      copied .ensures .long ∙ at .inv .2,
       spread-next (start .args .bits) (at .p) _ _ _ (start .args .order .now) (start .args .items .now) _ _ (start .pre .1) (turn .loop-test .taken)
-          (at .inv .1) (ap (λ (k : ℕ). k * start .args .bits) (wide .wide .ensures)) (copied .copy-carrier .ensures) (at .inv .3),
+          (at .inv .1) (ap (λ (k : ℕ). k * start .args .bits) (wide .ensures)) (copied .ensures) (at .inv .3),
     )
 
 same-length : tie.Need-same-length Inv-loop μ-loop

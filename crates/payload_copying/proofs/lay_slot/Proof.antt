@@ -1,15 +1,30 @@
 -- `payload_copying::lay_slot` meets its contract. Assumes nothing.
 use mathlib.Core.Path.{_≡_, refl, ap}
-use Prim.Native.Nat.{ℕ, _+_, _-_, _*_}
+use mathlib.Core.List.{List}
+use Prim.Native.Nat.{ℕ, _+_, _-_, _*_, _<_, _≤_}
 use native.Mathlib.Omega.{arith}
-use lib.ListN.{take, drop, length, length-take, length-drop}
+use lib.ListN.{take, drop, getD, length, length-take, length-drop}
 use borrow.Author.Needs.{needs}
 use Rattle.payload_layout.specs.Layouts.{groupCarriers}
-use Rattle.payload_layout.specs.Layouts.{groupBits}
+use Rattle.payload_layout.specs.Layouts.{groupBits, CarrierBits}
 use Rattle.payload_copying.proofs.SlottedLaws.{group-few, carriers-few, group-within, order-within, pad-within, group-from, group-last}
 use Rattle.payload_copying.proofs.SlotLaws.{orderOf, order-long, order-in, slot-laid, source-data, source-last}
 use Rattle.payload_copying.proofs.lay_slot.Statement.{statement}
 use Rattle.payload_copying.proofs.lay_slot.Tie as tie
+
+-- what gathering asks of the order and of a list that holds the group
+ready : (z : tie.Start) (src : List ℕ) → groupBits (z .args .l) ≤ length src
+    → let L = z .args .l in
+    let order = orderOf (z .args .k * groupCarriers L) (z .args .k * groupCarriers L + groupCarriers L) (z .args .table .now) in
+    ((CarrierBits (L .bits)) × (length order ≤ 410) × (length order * L .bits ≤ groupBits L))
+    × ((p : ℕ) → p < length order → getD order p 0 * L .bits + L .bits ≤ length src)
+ready z src h =
+    let L = z .args .l in
+    let s = z .pre .0 in
+    let long = order-long L s (z .args .k) (z .pre .1) (z .args .table .now) (z .pre .3) _ _ refl refl in (
+      (s .laid .small .bits-are, omega (arith, long, carriers-few L s), omega (arith, ap (λ (x : ℕ). x * L .bits) long)),
+      order-in L s (z .args .k) (z .pre .1) (z .args .table .now) (z .pre .3) _ _ refl refl src h,
+    )
 
 mul-group : tie.Need-mul-group
 mul-group c = omega (arith, carriers-few _ (c .before .before .before .before .pre .0))
@@ -54,13 +69,10 @@ gather-requires : tie.Need-gather-requires
 gather-requires c κs =
     let start = c .before .before .before .before .before .before .before .before .before in
     let L = start .args .l in
-    let s = start .pre .0 in
-    let k = start .args .k in
-    let t = start .args .table .now in
-    let long : length (orderOf (k * groupCarriers L) (k * groupCarriers L + groupCarriers L) t) ≡ groupCarriers L = order-long L s k (start .pre .1) t (start .pre .3) _ _ refl refl in (
-      (s .laid .small .bits-are, omega (arith, long, carriers-few L s), omega (arith, ap (λ (x : ℕ). x * L .bits) long, start .pre .5)),
-      order-in L s k (start .pre .1) t (start .pre .3) _ _ refl refl (take (length (start .args .coded .now) - start .args .g * groupBits L) (drop (start .args .g * groupBits L) (start .args .coded .now))) (simp (length-take, length-drop) (omega (arith, c .before .before .before .if1 .taken))),
-    )
+    let from : ℕ = start .args .g * groupBits L in
+    let coded = start .args .coded .now in
+    let (order, all) = ready start (take (length coded - from) (drop from coded)) (simp (length-take, length-drop) (omega (arith, c .before .before .before .if1 .taken))) in
+    ((order .0, order .1, omega (arith, order .2, start .pre .5)), all)
 
 same-length : tie.Need-same-length
 same-length c = search needs
@@ -105,14 +117,9 @@ slice-aggregate-gather c = search needs
 gather-requires-2 : tie.Need-gather-requires-2
 gather-requires-2 c κs =
     let start = c .before .before .before .before .before .before .before .before .before .before in
-    let L = start .args .l in
-    let s = start .pre .0 in
-    let k = start .args .k in
-    let t = start .args .table .now in
-    let long : length (orderOf (k * groupCarriers L) (k * groupCarriers L + groupCarriers L) t) ≡ groupCarriers L = order-long L s k (start .pre .1) t (start .pre .3) _ _ refl refl in (
-      (s .laid .small .bits-are, omega (arith, long, carriers-few L s), omega (arith, ap (λ (x : ℕ). x * L .bits) long, start .pre .5)),
-      order-in L s k (start .pre .1) t (start .pre .3) _ _ refl refl (c .before .before .before .last-group .result) (omega (arith, group-few _ s, c .before .before .before .last-group .ensures .0)),
-    )
+    let last = c .before .before .before .last-group in
+    let (order, all) = ready start (last .result) (omega (arith, group-few _ (start .pre .0), last .ensures .0)) in
+    ((order .0, order .1, omega (arith, order .2, start .pre .5)), all)
 
 same-length-2 : tie.Need-same-length-2
 same-length-2 c = search needs

@@ -12,7 +12,7 @@ use Rattle.payload_layout.specs.Items.{sentOn}
 use Rattle.payload_layout.specs.Layouts.{groupBits, symbolItems}
 use Rattle.payload_copying.specs.Loops.Slots.{slotNo, Standing}
 use Rattle.payload_copying.proofs.SlottedLaws.{group-few, carriers-few, symbol-few}
-use Rattle.payload_copying.proofs.SymbolLaws.{used-bits, slot-within, copy-in, group-below, slot-sent, cleared}
+use Rattle.payload_copying.proofs.SymbolLaws.{used-bits, slot-within, slot-in, slot-sent, cleared}
 use Rattle.payload_copying.proofs.lay_symbol.Statement.{statement}
 use Rattle.payload_copying.proofs.lay_symbol.Tie as tie
 
@@ -28,6 +28,14 @@ abbrev μ-loop : tie.MeasureT-loop
 -- a slot is within the symbol
 in-copies : (c : tie.In-loop Inv-loop μ-loop) → c .before .loop .j < c .before .before .before .before .before .before .before .before .args .l .copies
 in-copies c = omega (arith, c .loop-test .taken, c .before .loop .inv .8)
+
+-- the slot at which the walk stands
+standing : (c : tie.In-loop Inv-loop μ-loop)
+    → (c .before .loop .s .copy < c .before .before .before .before .before .before .before .before .args .l .copies) × (c .before .loop .s .group < c .before .before .before .before .before .before .before .before .args .l .symbols)
+standing c =
+    let start = c .before .before .before .before .before .before .before .before in
+    let at = c .before .loop in
+    slot-in (start .args .l) (start .pre .0 .0) (start .args .y) (at .j) (at .s) (start .pre .0 .1) (in-copies c) (at .inv .2) (at .inv .3)
 
 fits : (c : tie.In-loop Inv-loop μ-loop) → c .before .loop .n + groupBits (c .before .before .before .before .before .before .before .before .args .l) ≤ length (c .before .loop .out)
 fits c =
@@ -74,19 +82,8 @@ part-lay-slot-end c = search needs
 
 lay-slot-requires : tie.Need-lay-slot-requires Inv-loop μ-loop
 lay-slot-requires c κs =
-    let turn = c .before in
-    let at = turn .before .loop in
-    let start = turn .before .before .before .before .before .before .before .before in
-    let L = start .args .l in
-    let s = start .pre .0 .0 in
-    let j : at .j < L .copies = in-copies turn in (
-      s,
-      copy-in L s (start .args .y) (at .j) (at .s) (start .pre .0 .1) j (at .inv .2) (at .inv .3),
-      group-below L s (start .args .y) (at .j) (at .s) (start .pre .0 .1) j (at .inv .2) (at .inv .3),
-      start .pre .0 .4,
-      start .pre .1 .0,
-      simp (length-take, length-drop) (omega (arith, fits turn)),
-    )
+    let start = c .before .before .before .before .before .before .before .before .before in
+    (start .pre .0 .0, standing (c .before) .0, standing (c .before) .1, start .pre .0 .4, start .pre .1 .0, simp (length-take, length-drop) (omega (arith, fits (c .before))))
 
 next-slot-requires : tie.Need-next-slot-requires Inv-loop μ-loop
 next-slot-requires c κs =
@@ -94,7 +91,7 @@ next-slot-requires c κs =
     let at = turn .before .loop in
     let start = turn .before .before .before .before .before .before .before .before in
     let s = start .pre .0 .0 in
-    (s, at .inv .2, copy-in (start .args .l) s (start .args .y) (at .j) (at .s) (start .pre .0 .1) (in-copies turn) (at .inv .2) (at .inv .3))
+    (s, at .inv .2, standing turn .0)
 
 add-n : tie.Need-add-n Inv-loop μ-loop
 add-n c =
