@@ -92,8 +92,8 @@ enum hplc_number {
 #define HPLC_STACK_POINT 512
 #define HPLC_STACK_FC_SEND 8704
 #define HPLC_STACK_FC_READ 10240
-#define HPLC_STACK_PAYLOAD_SEND 25088
-#define HPLC_STACK_PAYLOAD_READ 28672
+#define HPLC_STACK_PAYLOAD_SEND 26624
+#define HPLC_STACK_PAYLOAD_READ 29184
 
 /* The library's version, as HPLC_VERSION has it. */
 uint32_t hplc_version(void);

@@ -8,28 +8,32 @@ use payload_layout::Layout;
 use refusal::Answer;
 use refusal::Refusal;
 ghost use mathlib.Core.Path.{_≡_};
-ghost use Prim.Native.Nat.{_≤_};
+ghost use Prim.Native.Nat.{_<_, _≤_};
 ghost use lib.ListN.{length};
 ghost use Rattle.bits.specs.Lists.{written};
 ghost use Rattle.refusal.specs.Report.{answer};
-ghost use Rattle.card.specs.Modes.{blockBytes};
+ghost use Rattle.card.specs.Card.{copyCode};
+ghost use Rattle.card.specs.Modes.{blockBytes, Defined};
 ghost use Rattle.card.specs.Gate.{Served};
-ghost use Rattle.payload_layout.specs.Layouts.{items as itemsOf};
+ghost use Rattle.interleaver_shape.specs.Shapes.{codedBits};
+ghost use Rattle.bands.specs.Bands.{bandCount};
+ghost use Rattle.payload_layout.specs.Layouts.{layoutOf, items as itemsOf};
 ghost use Rattle.payload.specs.Loops.Blocks.{LaidBlock};
-ghost use Rattle.payload.specs.Entries.{blockLayout, sentItem, sendBy, send as sendOutcome, decidedBit, decidedBlock, readBy, read as readOutcome};
+ghost use Rattle.payload.specs.Entries.{sentItem, sendBy, send as sendOutcome, decidedBit, decidedBlock, readBy, read as readOutcome};
 
-// The layout of a block's coded bits, in as many copies as the card says.
-fn block_layout(c: Card) -> Layout
-    requires { ⌜ Served 1 4 c ⌝ }
-    ensures { λ l. ⌜ l ≡ blockLayout c ⌝ }
+// The layout of a block's coded bits, in as many copies as the card says. By numbers: a card handed over whole takes longer than this.
+fn block_layout(
+    band: usize,
+    kind: usize,
+    rate: usize,
+    modulation: usize,
+    copies: usize,
+) -> Layout
+    requires { ⌜ (band < bandCount) × (Defined kind rate) × (modulation < 3) × (copyCode copies < 6) ⌝ }
+    ensures { λ l. ⌜ l ≡ layoutOf band modulation copies (codedBits kind rate) ⌝ }
 {
-    let coded = interleaver_shape::coded_bits(c.kind as usize, c.rate as usize);
-    payload_layout::layout_of(
-        c.band as usize,
-        c.modulation as usize,
-        c.copies as usize,
-        coded,
-    )
+    let coded = interleaver_shape::coded_bits(kind, rate);
+    payload_layout::layout_of(band, modulation, copies, coded)
 }
 
 // ---- sending
@@ -54,7 +58,13 @@ fn send_by(c: Card, block: &[u8], out: &mut [u8]) -> Answer
     ensures answer { λ r. ⌜ answer r ≡ sendBy c (now (block .entry)) (now (out .entry)) .report ⌝ }
     ensures items { λ _. ⌜ now (out .exit) ≡ sendBy c (now (block .entry)) (now (out .entry)) .out ⌝ }
 {
-    let l = block_layout(c);
+    let l = block_layout(
+        c.band as usize,
+        c.kind as usize,
+        c.rate as usize,
+        c.modulation as usize,
+        c.copies as usize,
+    );
     let size = card::block_bytes(c.kind as usize);
     let needed = payload_layout::item_count(l);
     if block.len() != size {
@@ -119,7 +129,13 @@ fn read_by(c: Card, items: &[u8], out: &mut [u8]) -> Answer
     ensures answer { λ r. ⌜ answer r ≡ readBy c (now (items .entry)) (now (out .entry)) .report ⌝ }
     ensures bytes { λ _. ⌜ now (out .exit) ≡ readBy c (now (items .entry)) (now (out .entry)) .out ⌝ }
 {
-    let l = block_layout(c);
+    let l = block_layout(
+        c.band as usize,
+        c.kind as usize,
+        c.rate as usize,
+        c.modulation as usize,
+        c.copies as usize,
+    );
     if items.len() != payload_layout::item_count(l) {
         return Answer::Refused(Refusal::Length(items.len()));
     }

@@ -1,4 +1,4 @@
--- `payload::block_layout` meets its contract: a card that is served has some coded bits, and few. Assumes nothing.
+-- `payload::block_layout` meets its contract: a defined kind and rate have some coded bits, and few. Assumes nothing.
 use mathlib.Core.Path.{ap, _∙_}
 use Prim.Native.Nat.{ℕ}
 use native.Mathlib.Omega.{arith}
@@ -15,17 +15,17 @@ layout-of-requires : tie.Need-layout-of-requires
 layout-of-requires c κs =
     let z = c .before in
     let coded = c .coded-bits .ensures in (
-      z .pre .band-lt,
-      z .pre .modulation-lt,
-      z .pre .copies,
-      omega (arith, coded, coded-some (z .args .c .kind) (z .args .c .rate) (z .pre .kinds)),
-      omega (arith, coded, coded-le (z .args .c .kind) (z .args .c .rate) (z .pre .kinds)),
+      z .pre .0,
+      z .pre .2,
+      z .pre .3,
+      omega (arith, coded, coded-some (z .args .kind) (z .args .rate) (z .pre .1)),
+      omega (arith, coded, coded-le (z .args .kind) (z .args .rate) (z .pre .1)),
     )
 
 returns : tie.Need-returns
 returns c =
     let z = c .before .before in
-    c .layout-of .ensures ∙ ap (λ (n : ℕ). layoutOf (z .args .c .band) (z .args .c .modulation) (z .args .c .copies) n) (c .before .coded-bits .ensures)
+    c .layout-of .ensures ∙ ap (λ (n : ℕ). layoutOf (z .args .band) (z .args .modulation) (z .args .copies) n) (c .before .coded-bits .ensures)
 
 pub block-layout-spec : {M : Type 1} → statement M
 block-layout-spec = tie.close (tie.spec coded-bits-requires layout-of-requires returns)
