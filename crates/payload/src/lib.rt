@@ -22,13 +22,7 @@ ghost use Rattle.payload.specs.Loops.Blocks.{LaidBlock};
 ghost use Rattle.payload.specs.Entries.{sentItem, sendBy, send as sendOutcome, decidedBit, decidedBlock, readBy, read as readOutcome};
 
 // The layout of a block's coded bits, in as many copies as the card says. By numbers: a card handed over whole takes longer than this.
-fn block_layout(
-    band: usize,
-    kind: usize,
-    rate: usize,
-    modulation: usize,
-    copies: usize,
-) -> Layout
+fn block_layout(band: usize, kind: usize, rate: usize, modulation: usize, copies: usize) -> Layout
     requires { ⌜ (band < bandCount) × (Defined kind rate) × (modulation < 3) × (copyCode copies < 6) ⌝ }
     ensures { λ l. ⌜ l ≡ layoutOf band modulation copies (codedBits kind rate) ⌝ }
 {
