@@ -51,7 +51,7 @@ enum hplc_number {
     HPLC_REFUSED_CARD_VERSION = 2,
     /* The card's version and its length disagree; 0. */
     HPLC_REFUSED_VERSION_LENGTH = 10,
-    /* The mode is not defined, or not served by this call; 0. So are more than one block so far, and for frame control more than one copy. */
+    /* The mode is not defined, or not served by this call; 0. So far more than one block is not, nor are copies of a frame control. */
     HPLC_REFUSED_MODE = 3,
     /* An input's length, or a place or sub-carrier in a band, is wrong; that number. */
     HPLC_REFUSED_LENGTH = 4,
@@ -63,13 +63,16 @@ enum hplc_number {
     HPLC_REFUSED_MAJORITY = 7,
     /* Parity disagrees; the count of kept parity bits that disagree. */
     HPLC_REFUSED_PARITY = 8,
-    /* Version 1 cannot say the block count and the copy count; 0. A payload card with more than one copy gives this. */
+    /*
+     * Version 1 cannot say the block count and the copy count; 0. Payload cards and fields with more than one copy give this where version 1
+     * is asked for.
+     */
     HPLC_REFUSED_COUNTS = 11
 };
 
 /*
- * Lengths. Those of items are proved to be the lengths that the calls need, and HPLC_PAYLOAD_ITEMS_MAX to be the most of any mode. No printed
- * card is longer than HPLC_CARD_TEXT_MAX, which is proved too.
+ * Lengths. Those of items are proved to be the lengths that the calls need, and that no mode needs more than HPLC_PAYLOAD_ITEMS_MAX. No
+ * printed card is longer than HPLC_CARD_TEXT_MAX, which is proved too.
  */
 #define HPLC_CARD_BYTES 11
 #define HPLC_CARD_2_BYTES 12
@@ -84,9 +87,9 @@ enum hplc_number {
 #define HPLC_PAYLOAD_ITEMS_MAX 101920
 
 /*
- * Stack of a call in bytes, on x86-64: measured over every mode (tests/stack.sh), not proved. CARD is of each call about cards, POINT of
- * each about points, places and sub-carriers. Where memcpy and memset are bound when they are first called, the dynamic linker takes some
- * stack besides, which goes by the machine.
+ * Stack of a call in bytes, on x86-64: measured over every mode and copy count (tests/stack.sh), not proved. CARD is of each call about
+ * cards, POINT of each about points, places and sub-carriers. Where memcpy and memset are bound when they are first called, the dynamic
+ * linker takes some stack besides, which goes by the machine.
  */
 #define HPLC_STACK_CARD 1792
 #define HPLC_STACK_POINT 512
@@ -164,8 +167,8 @@ uint32_t hplc_fc_read(const uint8_t *card, size_t card_len, const uint8_t *items
 
 /*
  * The items of a payload block of 72, 136, 264 or 520 bytes by the card's kind: 1, 2 or 4 items a carrier by its modulation, by
- * symbol, place and bit, copied as often as the card says; at most HPLC_PAYLOAD_ITEMS_MAX. With more than one copy the top carriers of a
- * band may carry nothing, and their items are 0. Refusals 1, 2, 10, 3 (a frame-control card too), 4, 5.
+ * symbol, place and bit, copied as often as the card says; at most HPLC_PAYLOAD_ITEMS_MAX. With more than one copy some carriers at the
+ * top of the band carry nothing, and their items are 0. Refusals 1, 2, 10, 3 (a frame-control card too), 4, 5.
  */
 uint32_t hplc_payload_send(const uint8_t *card, size_t card_len, const uint8_t *block, size_t block_len, uint8_t *items,
                            size_t items_len, uint64_t value[2]);

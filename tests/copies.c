@@ -2,7 +2,8 @@
  * The worked examples of the copied payload (docs/DECISIONS.md, D27), seen from outside: many blocks are sent once and copied, and an item
  * carries the coded bit that it equals in all of them. Sent once, item b is coded bit b. An item that is 0 in all of them carries none.
  *
- * For each row it prints band, modulation, kind, rate and copies, then the used carriers, the pad, the symbols, the items and F.
+ * For each row it prints band, modulation, kind, rate and copies, then the used carriers, the bits of a group, the pad, the symbols, the items
+ * and F.
  */
 #include <stdio.h>
 #include <stdlib.h>
@@ -12,6 +13,7 @@
 #define BLOCKS 64
 #define CODED_MAX 8320
 
+/* A coded bit: what it is in each block, and its number. */
 struct coded {
     uint64_t seen;
     uint64_t bit;
@@ -108,7 +110,8 @@ static void print_row(const uint64_t mode[5])
         padded += copies_of[b] > mode[4];
     }
     printf("%u %u %u %u %u:", (unsigned)mode[0], (unsigned)mode[1], (unsigned)mode[2], (unsigned)mode[3], (unsigned)mode[4]);
-    printf(" %u %u %u %u %u\n", (unsigned)used, (unsigned)(padded / mode[4]), (unsigned)(length / per_symbol), (unsigned)length, (unsigned)f);
+    printf(" %u %u %u", (unsigned)used, (unsigned)(used / mode[4] * bits[mode[1]]), (unsigned)(padded / mode[4]));
+    printf(" %u %u %u\n", (unsigned)(length / per_symbol), (unsigned)length, (unsigned)f);
 }
 
 int main(void)

@@ -15,7 +15,7 @@ awk -F ' *[|] *' '
     gsub(/,/, "")
     split($2, mode, " ")
     modulation = mode[2] == "BPSK" ? 0 : mode[2] == "QPSK" ? 1 : 2
-    print mode[1], modulation, mode[3], mode[4] == "16/18", mode[5] ": " $3, $5, $7, $8, $9
+    print mode[1], modulation, mode[3], mode[4] == "16/18", mode[5] ": " $3, $4, $5, $7, $8, $9
   }' docs/DECISIONS.md > "$work/rows"
 sed 's/:.*//' "$work/rows" | "$work/copies" > "$work/seen" || true
 diff "$work/rows" "$work/seen"

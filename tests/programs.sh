@@ -1,6 +1,6 @@
 #!/usr/bin/env bash
-# The programs `encode`, `decode` and `print_card` write what the same programs over the reference write, in every mode, with every copy
-# count, on bad files and on refused cards, each with a stack of 512 KB. They are taken from target/bin, where `rt check` or `rt ci` put
+# The programs `encode`, `decode` and `print_card` write what the same programs over the reference write, in every mode, and on every band
+# with every copy count in three modes, on bad files and on refused cards, each with a stack of 512 KB. They are taken from target/bin, where `rt check` or `rt ci` put
 # them.
 set -eu
 cd "$(dirname "$0")/.."
@@ -97,7 +97,7 @@ for copies in 0 1 2 3 4 5; do
   done
 done
 
-# More copies or blocks than are defined, and any but one of frame control.
+# Copies of frame control, codes without a count, two blocks; and payload cards of 2 and 11 copies with the items of another card.
 for fourth in 8 40 48 56 64; do
   for mode in '0 0 1' '4 0 1'; do
     card 2 $mode 1095 "$second" "$fourth" > card

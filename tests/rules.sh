@@ -2,7 +2,8 @@
 # The tables of docs/RULES.md are those of the definitions: M, N and S of each size, Table 11, the bands and the symbols' offsets. So
 # is the table of bands in docs/CLASS.md, and what include/hplc.h prints by band: the items, the sub-carriers and the limits. The edges of
 # what slicing loses are the definitions' in docs/RULES.md and include/hplc.h, and so are a card's bits and copy codes and the pad nearest to
-# its coded bits in docs/RULES.md, and a card's lengths in include/hplc.h. The requests that docs/RULES.md names are those of docs/changes.
+# its coded bits in docs/RULES.md, and a card's lengths in include/hplc.h. Table 13, the most pads of copies and the longest list are those
+# that the definitions' tables give. The requests that docs/RULES.md names are those of docs/changes.
 set -u
 cd "$(dirname "$0")/.." || exit 1
 bad=0
@@ -29,8 +30,8 @@ hex() {
 # row PATTERN COLUMN: a column of the row of docs/RULES.md that starts so.
 row() { awk -F ' *[|] *' -v column="$2" -v start="$1" 'index($0, start) == 1 { print $column; exit }' docs/RULES.md; }
 
-# bands_of DOCUMENT: the rows of its table of bands.
-bands_of() { awk '/^\| Band \|/ { on = 1 } on && !NF { exit } on && /^\| [0-9]/' "$1"; }
+# rows_of DOCUMENT COLUMN: the rows of its first table whose first column is called so.
+rows_of() { awk -v start="| $2 |" 'index($0, start) == 1 { on = 1 } on && !NF { exit } on && /^\| [0-9]/' "$1"; }
 
 # found FILE PATTERN: what a pattern finds in a text, its lines joined.
 found() { tr -s '\n* ' ' ' < "$1" | sed -nE "s/.*$2.*/\1/p"; }
@@ -58,6 +59,27 @@ nearest() {
     done
   done
   printf '%d of %d\n' "$pad" "$of"
+}
+
+# copied CARRIERS BITS CODED CODE: the pad of a copy, and the items of all, by the arithmetic of 5.1.5.5.3.
+copied() {
+  local used=$((all[$4] * ($1 / all[$4])))
+  local symbol=$(($2 * used)) group=$(($2 * (used / copies[$4]))) pad=0
+  local last=$(($3 % symbol))
+  if [ "$last" -gt 0 ]; then
+    pad=$((group - (last - group * ((last - 1) / group))))
+  fi
+  printf '%d %d\n' "$pad" $((($3 + pad) / group * $1 * $2))
+}
+
+# unused CODE: the carriers of each band that carry nothing with so many copies.
+unused() {
+  local band carriers text=
+  for band in "${!first[@]}"; do
+    carriers=$((last[band] - first[band] + 1))
+    text+=", $((carriers % all[$1]))"
+  done
+  printf '%s\n' "${text#, }"
 }
 
 # same NAME A B: two texts that must be equal, and not empty.
@@ -111,8 +133,8 @@ for band in "${!first[@]}"; do
   done
   same "HPLC_FC_ITEMS_BAND_$band" "$(sed -n "s/^#define HPLC_FC_ITEMS_BAND_$band //p" include/hplc.h)" "$items"
 done
-same 'the bands of docs/RULES.md' "$(bands_of docs/RULES.md)"$'\n' "$bands"
-same 'the bands of docs/CLASS.md' "$(bands_of docs/CLASS.md)"$'\n' "$limits"
+same 'the bands of docs/RULES.md' "$(rows_of docs/RULES.md Band)"$'\n' "$bands"
+same 'the bands of docs/CLASS.md' "$(rows_of docs/CLASS.md Band)"$'\n' "$limits"
 same 'the sub-carriers of include/hplc.h' "$(found include/hplc.h 'Bands 0 to 3 are sub-carriers ([^.]+)\.')" "$(listed "${spans[@]}")"
 same 'the limits of include/hplc.h' "$(found include/hplc.h "below the band's limit, ([^.]+) on bands 0 to 3,")" "$(listed "${fewest[@]}")"
 coded=("$(sed -n 's/^pub coded-high : codedBits 4 1 ≡ //p' crates/interleaver_shape/proofs/ShapeLaws.antt)")
@@ -139,6 +161,36 @@ same 'the bits of a card in docs/RULES.md' "${bits[*]:0:7} 12 ${between[*]} ${bi
   "$(sed -n 's/^widths bytes = //p' crates/card/specs/Card.antt | tr -cs '0-9' ' ' | xargs)"
 read -ra copies <<< "$(numbers card copyCounts)"
 same 'the copy codes in docs/RULES.md' "$(found docs/RULES.md 'copy codes 0 to 5 are ([0-9, ]+ and [0-9]+) copies')" "$(listed "${copies[@]}")"
+read -ra all <<< "$(numbers payload_layout interNum)"
+read -ra per_group <<< "$(numbers payload_layout interNumPerGroup)"
+interleavers=
+pads=0
+of=1
+longest=0
+for code in "${!copies[@]}"; do
+  interleavers+="| ${copies[code]} | ${all[code]} | ${per_group[code]} |"$'\n'
+  for band in "${!first[@]}"; do
+    for bits in $(numbers card 'carrierBits modulation'); do
+      for data in "${coded[@]}"; do
+        read -r pad items <<< "$(copied $((last[band] - first[band] + 1)) "$bits" "$data" "$code")"
+        if [ $((copies[code] * pad * of)) -gt $((pads * data)) ]; then
+          pads=$((copies[code] * pad))
+          of=$data
+        fi
+        longest=$((items > longest ? items : longest))
+      done
+    done
+  done
+done
+same 'Table 13 in docs/RULES.md' "$(rows_of docs/RULES.md Copies)"$'\n' "$interleavers"
+same 'the most pads of docs/RULES.md' "$(found docs/RULES.md 'defined mode, at most ([0-9,]+ of [0-9,]+) \(' | tr -d ,)" "$pads of $of"
+same 'the longest list of docs/RULES.md' "$(found docs/RULES.md 'The longest list has ([0-9,]+) items' | tr -d ,)" "$longest"
+same 'mostItems' "$(number payload_layout 'mostItems = ')" "$longest"
+interleavers=$(sed -nE 's/^\| InterNum(PerGroup)? \| ([0-9, ]+) \(.*/\2/p' docs/DECISIONS.md | tr -d ,)
+same 'Table 13 in docs/DECISIONS.md' "$interleavers" "${all[*]}"$'\n'"${per_group[*]}"
+same 'the unused carriers of docs/DECISIONS.md' "$(found docs/DECISIONS.md 'Their numbers on bands 0 to 3: ([^.]+)\.')" \
+  "$(unused 1) with ${copies[1]} or ${copies[2]} copies; $(unused 3) with ${copies[3]}; $(unused 4) with ${copies[4]}; $(unused 5) with ${copies[5]}"
+same 'HPLC_PAYLOAD_ITEMS_MAX' "$(sed -n 's/^#define HPLC_PAYLOAD_ITEMS_MAX //p' include/hplc.h)" "$longest"
 same 'the lengths of a card in include/hplc.h' "$(sed -nE 's/^#define HPLC_CARD_(2_)?BYTES //p' include/hplc.h | xargs)" \
   "$(sed -nE 's/^cardBytes version = cond \(eqb version 2\) ([0-9]+) ([0-9]+)$/\2 \1/p' crates/card/specs/Card.antt)"
 same 'HPLC_CARD_TEXT_MAX' "$(sed -n 's/^#define HPLC_CARD_TEXT_MAX //p' include/hplc.h)" "$(number printed_card 'longest = ')"

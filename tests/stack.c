@@ -1,6 +1,7 @@
 /*
  * How much stack each call takes: the call runs on a stack of its own that was filled with a pattern, and what lost the pattern is
- * counted, over every defined mode and copy count and both versions of a card. Fails where a call takes more than include/hplc.h states, or where that states a good deal more.
+ * counted, over every defined mode and copy count and both versions of a card. Fails where a call takes more than include/hplc.h states,
+ * or where that states a good deal more.
  */
 #include <stdio.h>
 #include <string.h>

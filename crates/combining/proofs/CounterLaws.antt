@@ -1,7 +1,7 @@
 -- Laws of a bit's counters: its votes on lanes of the cycle, the majority that its two counters tell, and pairs.
 -- Assumes nothing.
 use mathlib.Core.Path.{_≡_, refl, sym, ap, _∙_}
-use mathlib.Core.Bool.{Bool, true, false, cond, _&&_}
+use mathlib.Core.Bool.{Bool, cond, _&&_}
 use mathlib.Core.List.{List, _++_}
 use Prim.Native.Nat.{ℕ, zero, suc, _+_, _-_, _*_, _/_, _%_, _≤_, _<_}
 use native.Mathlib.Nat.{mod-eq-of-lt}
@@ -15,7 +15,7 @@ use Rattle.bits.proofs.BoolLaws.{test-cases}
 use Rattle.bits.proofs.NumberLaws.{lt-cases}
 use Rattle.bits.proofs.ListLaws.{getD-tabulate, tabulate-ext, written-whole}
 use Rattle.bits.proofs.SumLaws.{sum-ext, sum-add}
-use Rattle.votes.specs.Votes.{carries, copies, votes, majority, decided}
+use Rattle.votes.specs.Votes.{carries, votes, majority, decided}
 use Rattle.votes.specs.Loops.Counters.{middle, counted, Adds}
 use Rattle.votes.proofs.VoteLaws.{votes-le}
 use Rattle.votes.proofs.CounterLaws.{alone, counter-from, majority-from}

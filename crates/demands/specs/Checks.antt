@@ -28,7 +28,7 @@ use Rattle.diversity.specs.Lanes.{laneBit, carrierCount, itemCount}
 use Rattle.diversity.specs.Copies.{copiesOf, copiesOn}
 use Rattle.payload_layout.specs.declared.Layout.{Layout}
 use Rattle.payload_layout.specs.Layouts.{spanOf, usedOf, groupOf, lastSymbolBits, lastGroupBits, padBits, shiftRun, shiftStep, layoutBy, layoutFor, layoutOf, items, usedCarriers, groupBits}
-use Rattle.payload_layout.specs.Items.{padded, groupOrder, copyOrder, copiedBit, used, carried}
+use Rattle.payload_layout.specs.Items.{padded, groupOrder, copyOrder, copiedBit, carried}
 
 -- a report of a card as numbers: 0 and its fields, or the refusal and its values
 abbrev numbers : Report Card → List ℕ
@@ -61,14 +61,14 @@ copiedCard = 0x22 ∷ 0x58 ∷ 0x8E ∷ 0x08 ∷ 0x00 ∷ 0x20 ∷ 0x00 ∷ 0x00
 abbrev shiftsOf : ℕ → ℕ → List ℕ
 shiftsOf copies groups = tabulate copies (λ k. k / shiftRun copies groups 1)
 
--- 72 bytes twice as QPSK on band 0, and the first bit on a place of a symbol, counted from 1
+-- 72 bytes twice as QPSK on band 0, and the first bit on a place of a symbol, both counted from 0
 abbrev twice : Layout
 twice = layoutOf 0 1 2 1152
 
 abbrev firstBit : ℕ → ℕ → ℕ
-firstBit symbol place = carried twice (2 * ((symbol - 1) * 411 + place))
+firstBit symbol place = carried twice (2 * (symbol * 411 + place))
 
--- what the rule gives, and what the paper prints
+-- what the rule gives, and what is printed
 abbrev pub checks : List (List ℕ × List ℕ)
 checks =
     -- P1: the first sixteen scrambler bits
@@ -120,13 +120,13 @@ checks =
       shiftsOf 11 10 ++ shiftsOf 11 11,
       0 ∷ 0 ∷ 0 ∷ 0 ∷ 0 ∷ 0 ∷ 0 ∷ 0 ∷ 0 ∷ 0 ∷ 0 ∷ 0 ∷ 1 ∷ 2 ∷ 3 ∷ 4 ∷ 5 ∷ 6 ∷ 7 ∷ 8 ∷ 9 ∷ 10 ∷ [],
     )
-    -- a worked example (D27): used carriers, bits of a group, pad, symbols and items; and bits on places of symbols 1 and 2
+    -- a worked example (D27): used carriers, bits of a group, pad, symbols and items; and bits on places of symbols 0 and 1
     ∷ (
       usedCarriers twice ∷ groupBits twice ∷ twice .pad ∷ twice .symbols ∷ items twice ∷ [],
       408 ∷ 408 ∷ 72 ∷ 3 ∷ 2466 ∷ [],
     )
     ∷ (
-      firstBit 1 0 ∷ firstBit 1 1 ∷ firstBit 1 26 ∷ firstBit 1 51 ∷ firstBit 1 204 ∷ firstBit 2 204 ∷ [],
+      firstBit 0 0 ∷ firstBit 0 1 ∷ firstBit 0 26 ∷ firstBit 0 51 ∷ firstBit 0 204 ∷ firstBit 1 204 ∷ [],
       0 ∷ 4 ∷ 2 ∷ 172 ∷ 408 ∷ 92 ∷ [],
     )
     ∷ []

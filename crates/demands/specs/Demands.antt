@@ -174,7 +174,7 @@ PayloadSurvivesCopies =
     < cardOf card .copies)
     → payloadRead card received back ≡ record { report = done (blockBytes (cardOf card .kind)); out = block ++ drop (blockBytes (cardOf card .kind)) back }
 
--- Each coded bit of a payload has as many copies as its card says, and one more where a pad repeats it: at least that many, and at most twelve.
+-- Each coded bit of a payload has as many copies as its card says, and one more where a pad repeats it, so at most twelve.
 abbrev pub PayloadCopies : Type 0
 PayloadCopies =
     (card : List ℕ) → GoodPayloadCard card → (b : ℕ) → b < codedBits (cardOf card .kind) (cardOf card .rate)

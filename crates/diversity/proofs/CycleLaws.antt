@@ -6,7 +6,7 @@ use native.Mathlib.Omega.{arith}
 use lib.Arith.{digits-div, digits-mod}
 use lib.ListN.{getD, length, take, drop, set}
 use Rattle.bits.specs.Lists.{tabulate, written}
-use Rattle.bits.proofs.ListLaws.{getD-tabulate, tabulate-of, written-two, written-part, written-all, written-ext, written-whole}
+use Rattle.bits.proofs.ListLaws.{getD-tabulate, written-two, written-part, written-all, written-ext, written-whole}
 use Rattle.diversity.specs.Lanes.{laneBit}
 use Rattle.diversity.specs.Loops.Cycle.{cycleBit, cycleLane}
 

@@ -20,7 +20,8 @@ use Rattle.bands.specs.Bands.{bandCount, carriers}
 use Rattle.interleaver_shape.specs.Shapes.{codedBits}
 use Rattle.interleaver_shape.proofs.ShapeLaws.{coded-some, coded-le}
 use Rattle.payload_layout.specs.declared.Layout.{Layout}
-use Rattle.payload_layout.specs.Layouts.{spanOf, usedOf, groupOf, lastGroupBits, padBits, layoutBy, layoutFor, layoutOf, items, mostItems, Laid}
+use Rattle.payload_layout.specs.Layouts.{spanOf, usedOf, groupOf, lastGroupBits, padBits, layoutBy, layoutFor, layoutOf, items, mostItems}
+use Rattle.payload_layout.specs.Loops.Bounds.{Laid}
 use Rattle.payload_layout.proofs.LayoutLaws.{layout-coded, layout-copies, layout-laid}
 use Rattle.payload.specs.Entries.{blockLayout}
 

@@ -30,7 +30,8 @@ use Rattle.votes.specs.Votes.{copies, wrongCopies, lostCopies}
 use Rattle.votes.specs.Damage.{Damage}
 use Rattle.votes.proofs.VoteLaws.{own-items}
 use Rattle.votes.proofs.DamageLaws.{none-above}
-use Rattle.payload_layout.specs.Layouts.{items, Laid}
+use Rattle.payload_layout.specs.Layouts.{items}
+use Rattle.payload_layout.specs.Loops.Bounds.{Laid}
 use Rattle.payload_layout.specs.Items.{carries, sentOn}
 use Rattle.payload_layout.proofs.CountLaws.{copies-are, copies-most}
 use Rattle.payload_layout.proofs.ItemLaws.{sent-binary, decided-clean, decided-damaged}

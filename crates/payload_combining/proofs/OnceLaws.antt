@@ -17,7 +17,8 @@ use Rattle.bits.proofs.SumLaws.{count-ext, count-and-none, count-one}
 use Rattle.votes.specs.Votes.{votes, majority, decided}
 use Rattle.votes.proofs.VoteLaws.{votes-append}
 use Rattle.payload_layout.specs.declared.Layout.{Layout}
-use Rattle.payload_layout.specs.Layouts.{items, Laid}
+use Rattle.payload_layout.specs.Layouts.{items}
+use Rattle.payload_layout.specs.Loops.Bounds.{Laid}
 use Rattle.payload_layout.specs.Items.{carries}
 use Rattle.payload_layout.proofs.PlainLaws.{one-full}
 use Rattle.payload_layout.proofs.ItemLaws.{one-carries}

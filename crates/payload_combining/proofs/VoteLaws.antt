@@ -1,16 +1,15 @@
 -- Laws of the votes by groups, slots and symbols, and what the counters decide. Assumes nothing.
 use mathlib.Core.Path.{_≡_, refl, sym, ap, ap₂, _∙_}
-use mathlib.Core.Bool.{Bool, false, cond, _&&_}
+use mathlib.Core.Bool.{Bool, _&&_}
 use mathlib.Core.List.{List, _++_}
 use Prim.Native.Nat.{ℕ, _+_, _-_, _*_, _%_, _<_, _≤_}
 use native.Mathlib.Nat.{zero-add, zero-mul}
 use native.Mathlib.Omega.{arith}
-use lib.Dec.{eqb, ltb}
+use lib.Dec.{eqb}
 use lib.ListN.{length, getD, take, drop, List·getD-append}
 use lib.Seq.{getD-take, getD-drop, drop-at}
 use borrow.Author.Tests.{lt-ltb, le-ltb}
 use Rattle.bits.specs.Lists.{tabulate, written}
-use Rattle.bits.specs.Sums.{count}
 use Rattle.bits.proofs.NumberLaws.{row-next}
 use Rattle.bits.proofs.ListLaws.{length-tabulate, getD-tabulate, tabulate-ext, written-ext}
 use Rattle.bits.proofs.SumLaws.{count-none}

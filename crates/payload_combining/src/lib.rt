@@ -10,7 +10,8 @@ ghost use Rattle.bits.specs.Lists.{written};
 ghost use Rattle.bits.specs.Permutations.{Permutes};
 ghost use Rattle.votes.specs.Votes.{majority as majorityOf, decided};
 ghost use Rattle.votes.specs.Loops.Counters.{middle, counted, Adds};
-ghost use Rattle.payload_layout.specs.Layouts.{items as itemsOf, symbolItems, groupBits, CarrierBits, Laid};
+ghost use Rattle.payload_layout.specs.Layouts.{items as itemsOf, symbolItems, groupBits};
+ghost use Rattle.payload_layout.specs.Loops.Bounds.{CarrierBits, Laid};
 ghost use Rattle.payload_layout.specs.Items.{carries};
 ghost use Rattle.payload_copying.specs.Loops.Slots.{Slotted, Addresses, slotNo, Standing};
 ghost use Rattle.payload_combining.specs.Loops.Copies.{ofOne, ofTwo};
@@ -99,16 +100,16 @@ fn count_group(l: Layout, k: usize, g: usize, group: &[u8], counters: &mut [u8])
     requires { ⌜ (Slotted l) × (k < l .copies) × (g < l .symbols) × (length (now group) ≡ 816) × (length (now counters) ≡ l .coded) ⌝ }
     ensures { λ _. ⌜ Adds (l .coded) 0 (groupBits l) (groupOn l k g) (now (group .entry)) (now (counters .entry)) (now (counters .exit)) ⌝ }
 {
-    let run = l.interleavers * l.span * l.bits;
-    let from = g * run;
+    let group_bits = l.interleavers * l.span * l.bits;
+    let from = g * group_bits;
     let coded = l.coded;
-    if from + run <= coded {
-        votes::count_run(0, from, run, group, counters);
+    if from + group_bits <= coded {
+        votes::count_run(0, from, group_bits, group, counters);
         return;
     }
     let rest = coded - from;
     votes::count_run(0, from, rest, group, counters);
-    votes::count_run(rest, k * l.pad, run - rest, group, counters);
+    votes::count_run(rest, k * l.pad, group_bits - rest, group, counters);
 }
 
 // The votes of a slot in which group g of copy k stands: its carriers are put back in order.
@@ -148,13 +149,13 @@ fn count_symbol(
     ensures walked { λ r. ⌜ (Standing l r) × (slotNo l r ≡ (y + 1) * l .copies) ⌝ }
     ensures voted { λ _. ⌜ now (counters .exit) ≡ counted (l .coded) ((y + 1) * symbolItems l) (carries l) (now (items .entry)) (middles l) ⌝ }
 {
-    let run = l.interleavers * l.span * l.bits;
+    let group_bits = l.interleavers * l.span * l.bits;
     let copies = l.copies;
     let mut s = first;
     let mut j: usize = 0;
     let mut n = y * (l.carriers * l.bits);
     while j < copies {
-        let end = n + run;
+        let end = n + group_bits;
         count_slot(l, s.copy, s.group, table, &items[n..end], group, counters);
         s = payload_copying::next_slot(l, s);
         n = end;
@@ -194,6 +195,7 @@ fn settled(counter: u8) -> u8
     2
 }
 
+// Each of `count` counters in place becomes what it decides.
 fn settle(count: usize, out: &mut [u8])
     requires { ⌜ count ≤ length (now out) ⌝ }
     ensures { λ _. ⌜ now (out .exit) ≡ written count (λ b. majorityOf middle (getD (now (out .entry)) b 0)) (now (out .entry)) ⌝ }

@@ -11,7 +11,7 @@ use lib.Seq.{getD-set-same, getD-set-other}
 use Rattle.bits.specs.Lists.{written}
 use Rattle.bits.proofs.NumberLaws.{lt-cases}
 use Rattle.bits.proofs.ListLaws.{written-of, getD-written, getD-kept}
-use Rattle.payload_layout.specs.Layouts.{CarrierBits}
+use Rattle.payload_layout.specs.Loops.Bounds.{CarrierBits}
 use Rattle.payload_copying.specs.Loops.Slots.{Copied, taken}
 
 -- bits a carrier that are neither four nor two are one

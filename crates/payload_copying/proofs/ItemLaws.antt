@@ -1,14 +1,15 @@
 -- A loop over slots knows copy and group without a division for each item: which bit stands at a place of a slot. Assumes nothing.
-use mathlib.Core.Path.{_≡_, refl, sym, ap, ap₂, _∙_}
+use mathlib.Core.Path.{_≡_, sym, ap, ap₂, _∙_}
 use mathlib.Core.Bool.{true}
-use Prim.Native.Nat.{ℕ, _+_, _*_, _/_, _%_, _<_, _≤_}
+use Prim.Native.Nat.{ℕ, _+_, _*_, _/_, _%_, _<_}
 use native.Mathlib.Nat.{mul-assoc, add-mul, mod-lt, div-add-mod'}
 use native.Mathlib.Omega.{arith}
 use lib.Arith.{digits-div, digits-mod, digits-lt}
 use borrow.Author.Tests.{lt-ltb}
 use Rattle.address_interleaver.specs.Addresses.{circshift}
 use Rattle.payload_layout.specs.declared.Layout.{Layout}
-use Rattle.payload_layout.specs.Layouts.{groupCarriers, usedCarriers, copyCarriers, Sound}
+use Rattle.payload_layout.specs.Layouts.{groupCarriers, usedCarriers, copyCarriers}
+use Rattle.payload_layout.specs.Loops.Bounds.{Sound}
 use Rattle.payload_layout.specs.Items.{groupOrder, copyOrder, padded, copiedBit, used, carried}
 
 -- the padded data's carrier at place p of slot t

@@ -1,6 +1,5 @@
 -- The items of one copy as two runs: the coded bits in order, and the pad, which has them from 0 on. Assumes nothing.
 use mathlib.Core.Path.{_≡_, sym, ap, _∙_}
-use mathlib.Core.Bool.{Bool, cond}
 use mathlib.Core.List.{List, _++_}
 use Prim.Native.Nat.{ℕ, _+_, _-_, _*_, _<_}
 use native.Mathlib.Nat.{one-mul}
@@ -11,7 +10,8 @@ use borrow.Author.Tests.{lt-ltb, le-ltb}
 use Rattle.bits.specs.Lists.{written}
 use Rattle.bits.proofs.ListLaws.{tabulate-of, written-list, written-part}
 use Rattle.payload_layout.specs.declared.Layout.{Layout}
-use Rattle.payload_layout.specs.Layouts.{items, Laid}
+use Rattle.payload_layout.specs.Layouts.{items}
+use Rattle.payload_layout.specs.Loops.Bounds.{Laid}
 use Rattle.payload_layout.specs.Items.{sentOn}
 use Rattle.payload_layout.proofs.PlainLaws.{one-full}
 use Rattle.payload_layout.proofs.ItemLaws.{one-sent}

@@ -4,7 +4,7 @@ use mathlib.Core.List.{List}
 use Prim.Native.Nat.{ℕ, _+_, _-_, _*_, _<_, _≤_}
 use native.Mathlib.Nat.{mul-assoc, mul-comm, mul-pos, le-mul-of-pos-right}
 use native.Mathlib.Omega.{arith}
-use lib.ListN.{length, getD}
+use lib.ListN.{length, getD, replicate, length-replicate}
 use Rattle.bits.specs.Lists.{written}
 use Rattle.bits.proofs.NumberLaws.{lt-cases, row-next, row-within}
 use Rattle.bits.proofs.ListLaws.{getD-written, length-written}
@@ -30,11 +30,12 @@ module _ (L : Layout) (s : Slotted L) where
   carriers-few =
       omega (arith, used-few, le-mul-of-pos-right {m = L .copies} (groupCarriers L) (s .laid .sound .copies-pos), mul-comm (groupCarriers L) (L .copies))
 
-  pub addresses-of : (out now : List ℕ) → length out ≡ 410 → now ≡ written (L .copies * L .interleavers * L .span) (address L) out → Addresses L now
-  addresses-of out now l e =
+  pub addresses-of : (table : List ℕ) → table ≡ written (usedCarriers L) (address L) (replicate 410 0) → Addresses L table
+  addresses-of table e =
+      let all = length-replicate {A = ℕ} 410 0 in
       record {
-        long = ap length e ∙ length-written _ (address L) out (omega (arith, used-product, used-few)) ∙ l;
-        at = λ u h. ap (λ (t : List ℕ). getD t u 0) e ∙ getD-written _ (address L) out u 0 (omega (arith, used-product));
+        long = ap length e ∙ length-written (usedCarriers L) (address L) (replicate 410 0) (omega (arith, all, used-few)) ∙ all;
+        at = λ u h. ap (λ (t : List ℕ). getD t u 0) e ∙ getD-written (usedCarriers L) (address L) (replicate 410 0) u 0 h;
       }
 
   -- symbols, and the items of one

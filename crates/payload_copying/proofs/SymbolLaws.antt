@@ -1,5 +1,5 @@
 -- Laws of a symbol: its slots carry the groups that stand there, and its unused carriers nothing. Assumes nothing.
-use mathlib.Core.Path.{_≡_, refl, sym, ap, ap₂, _∙_}
+use mathlib.Core.Path.{_≡_, sym, ap, ap₂, _∙_}
 use mathlib.Core.Bool.{Bool, true, false, cond, _&&_}
 use Prim.Native.Nat.{ℕ, _+_, _-_, _*_, _/_, _%_, _<_, _≤_}
 use native.Mathlib.Nat.{mul-assoc, mul-comm, add-mul, mod-lt, div-add-mod', div-lt-iff-lt-mul, lt-of-mul-lt-mul-right, mul-le-mul-right}
@@ -37,14 +37,14 @@ module _ (L : Layout) (z : Slotted L) where
         )
 
     copy-is : (y * L .copies + j) / L .symbols ≡ s .copy
-    copy-is = ap (λ (t : ℕ). t / L .symbols) (sym no) ∙ digits-div (s .copy) (at .place-in)
+    copy-is = ap (λ (t : ℕ). t / L .symbols) (sym no) ∙ digits-div (s .copy) (at .position-in)
 
-    place-is : (y * L .copies + j) % L .symbols ≡ s .place
-    place-is = ap (λ (t : ℕ). t % L .symbols) (sym no) ∙ digits-mod (s .copy) (at .place-in)
+    position-is : (y * L .copies + j) % L .symbols ≡ s .position
+    position-is = ap (λ (t : ℕ). t % L .symbols) (sym no) ∙ digits-mod (s .copy) (at .position-in)
 
     carrier-is : (p : ℕ) → slotCarrier L (y * L .copies + j) p ≡ s .group * groupCarriers L + groupOrder L (s .copy) p
     carrier-is p =
-        ap₂ (λ (k q : ℕ). circshift (L .symbols) (k / L .run) q * groupCarriers L + groupOrder L k p) copy-is place-is
+        ap₂ (λ (k q : ℕ). circshift (L .symbols) (k / L .run) q * groupCarriers L + groupOrder L k p) copy-is position-is
         ∙ ap (λ (g : ℕ). g * groupCarriers L + groupOrder L (s .copy) p) (sym (at .group-is))
 
     -- item i of the slot is used, and carries the slot's bit

@@ -6,9 +6,10 @@ ghost use mathlib.Core.Path.{_≡_};
 ghost use Prim.Native.Nat.{ℕ, _+_, _*_, _<_, _≤_};
 ghost use lib.ListN.{length, getD, replicate};
 ghost use Rattle.bits.specs.Lists.{written};
-ghost use Rattle.payload_layout.specs.Layouts.{items as itemsOf, symbolItems, groupBits, CarrierBits, Laid};
+ghost use Rattle.payload_layout.specs.Layouts.{items as itemsOf, symbolItems, usedCarriers, groupBits};
+ghost use Rattle.payload_layout.specs.Loops.Bounds.{CarrierBits, Laid};
 ghost use Rattle.payload_layout.specs.Items.{sentOn};
-ghost use Rattle.payload_copying.specs.Loops.Slots.{Slotted, Addresses, slotNo, Standing, slotBit, Copied, taken, LastGroup};
+ghost use Rattle.payload_copying.specs.Loops.Slots.{Slotted, address, Addresses, slotNo, Standing, slotBit, Copied, taken, LastGroup};
 
 // ---- the addresses
 
@@ -22,7 +23,7 @@ fn no_addresses() -> [u16; 410]
 // The addresses of all copies' interleavers.
 pub fn table_of(l: Layout) -> [u16; 410]
     requires { ⌜ Slotted l ⌝ }
-    ensures { λ r. ⌜ Addresses l r ⌝ }
+    ensures { λ r. ⌜ r ≡ written (usedCarriers l) (address l) (replicate 410 0) ⌝ }
 {
     let mut table = no_addresses();
     address_interleaver::fill_table(
@@ -37,10 +38,10 @@ pub fn table_of(l: Layout) -> [u16; 410]
 
 // ---- the walk over the slots
 
-// Where a walk over the slots stands: a place of a copy, and the group that stands there.
+// Where a walk over the slots stands: a position of a copy, and the group that stands there.
 pub struct Slot {
     pub copy: usize,
-    pub place: usize,
+    pub position: usize,
     pub group: usize,
 }
 
@@ -54,7 +55,7 @@ pub fn first_slot(l: Layout, k: usize) -> Slot
     let up = n - by;
     Slot {
         copy: k,
-        place: 0,
+        position: 0,
         group: up % n,
     }
 }
@@ -64,11 +65,11 @@ pub fn next_slot(l: Layout, s: Slot) -> Slot
     requires { ⌜ (Slotted l) × (Standing l s) × (s .copy < l .copies) ⌝ }
     ensures { λ r. ⌜ (Standing l r) × (slotNo l r ≡ slotNo l s + 1) ⌝ }
 {
-    let place = s.place + 1;
-    if place < l.symbols {
+    let position = s.position + 1;
+    if position < l.symbols {
         return Slot {
             copy: s.copy,
-            place: place,
+            position,
             group: address_interleaver::next_place(l.symbols, s.group),
         };
     }
@@ -144,13 +145,13 @@ fn lay_slot(l: Layout, k: usize, g: usize, table: &[u16], coded: &[u8], out: &mu
     requires { ⌜ (Slotted l) × (k < l .copies) × (g < l .symbols) × (Addresses l (now table)) × (length (now coded) ≡ l .coded) × (groupBits l ≤ length (now out)) ⌝ }
     ensures { λ _. ⌜ now (out .exit) ≡ written (groupBits l) (λ i. getD (now (coded .entry)) (slotBit l k g i) 0) (now (out .entry)) ⌝ }
 {
-    let group = l.interleavers * l.span;
-    let first = k * group;
-    let end = first + group;
-    let run = group * l.bits;
-    let from = g * run;
+    let size = l.interleavers * l.span;
+    let first = k * size;
+    let end = first + size;
+    let group_bits = size * l.bits;
+    let from = g * group_bits;
     let pad = l.pad;
-    if from + run <= coded.len() {
+    if from + group_bits <= coded.len() {
         gather(l.bits, &table[first..end], &coded[from..], out);
         return;
     }
@@ -158,14 +159,14 @@ fn lay_slot(l: Layout, k: usize, g: usize, table: &[u16], coded: &[u8], out: &mu
     gather(l.bits, &table[first..end], &last, out);
 }
 
-// The items of symbol y, whose first slot is s; the answer is the slot after its last.
+// The items of symbol y, whose first slot is given; the answer is the slot after its last.
 fn lay_symbol(l: Layout, y: usize, first: Slot, table: &[u16], coded: &[u8], out: &mut [u8]) -> Slot
     requires { ⌜ (Slotted l) × (y < l .symbols) × (Standing l first) × (slotNo l first ≡ y * l .copies) × (Addresses l (now table)) ⌝ }
     requires { ⌜ (length (now coded) ≡ l .coded) × (symbolItems l ≤ length (now out)) ⌝ }
     ensures walked { λ r. ⌜ (Standing l r) × (slotNo l r ≡ (y + 1) * l .copies) ⌝ }
     ensures laid { λ _. ⌜ now (out .exit) ≡ written (symbolItems l) (λ i. sentOn l (λ b. getD (now (coded .entry)) b 0) (y * symbolItems l + i)) (now (out .entry)) ⌝ }
 {
-    let run = l.interleavers * l.span * l.bits;
+    let group_bits = l.interleavers * l.span * l.bits;
     let row = l.carriers * l.bits;
     let copies = l.copies;
     let mut s = first;
@@ -174,7 +175,7 @@ fn lay_symbol(l: Layout, y: usize, first: Slot, table: &[u16], coded: &[u8], out
     while j < copies {
         lay_slot(l, s.copy, s.group, table, coded, &mut out[n..]);
         s = next_slot(l, s);
-        n += run;
+        n += group_bits;
         j += 1;
     }
     bits::fill(row - n, 0, &mut out[n..]);

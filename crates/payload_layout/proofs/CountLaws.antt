@@ -13,7 +13,8 @@ use Rattle.bits.proofs.SumLaws.{sum-ext, sum-zero, sum-append, sum-rows, one-le
 use Rattle.bits.proofs.PermutationLaws.{sum-permuted}
 use Rattle.votes.specs.Votes.{copies}
 use Rattle.payload_layout.specs.declared.Layout.{Layout}
-use Rattle.payload_layout.specs.Layouts.{symbolItems, items, groupCarriers, usedCarriers, copyCarriers, Sound, Small}
+use Rattle.payload_layout.specs.Layouts.{items, groupCarriers, usedCarriers, copyCarriers}
+use Rattle.payload_layout.specs.Loops.Bounds.{Sound, Small}
 use Rattle.payload_layout.specs.Items.{padded, copyOrder, copiedBit, used, carried, carries}
 use Rattle.payload_layout.proofs.OrderLaws.{copy-permutes}
 

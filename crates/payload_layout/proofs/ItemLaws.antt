@@ -1,8 +1,8 @@
 -- Laws by which callers know the items: what an item sends, the copies of each coded bit, and what received items decide. Assumes nothing.
-use mathlib.Core.Path.{_≡_, refl, sym, ap, ap₂, _∙_}
+use mathlib.Core.Path.{_≡_, ap, ap₂, _∙_}
 use mathlib.Core.Bool.{Bool, true, false, cond, _&&_}
 use mathlib.Core.List.{List}
-use Prim.Native.Nat.{ℕ, _+_, _-_, _*_, _≤_, _<_}
+use Prim.Native.Nat.{ℕ, _+_, _-_, _*_, _<_}
 use native.Mathlib.Omega.{arith}
 use lib.Dec.{T, eqb, ltb, eqb→eq}
 use lib.ListN.{getD}
@@ -12,7 +12,8 @@ use Rattle.bits.proofs.ListLaws.{getD-tabulate}
 use Rattle.votes.specs.Votes.{copies, wrongCopies, lostCopies, decided}
 use Rattle.votes.proofs.VoteLaws.{decided-as-sent, undamaged}
 use Rattle.payload_layout.specs.declared.Layout.{Layout}
-use Rattle.payload_layout.specs.Layouts.{items, Sound, Laid}
+use Rattle.payload_layout.specs.Layouts.{items}
+use Rattle.payload_layout.specs.Loops.Bounds.{Sound, Laid}
 use Rattle.payload_layout.specs.Items.{used, carried, carries, sentOn}
 use Rattle.payload_layout.proofs.CountLaws.{copies-least}
 use Rattle.payload_layout.proofs.PlainLaws.{all-used, one-carried, carried-below}

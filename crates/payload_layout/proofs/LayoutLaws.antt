@@ -1,9 +1,9 @@
 -- What the layouts of bands, modulations and copy counts have: all that the loops ask, where the pads are within the data. Assumes nothing.
 use mathlib.Core.Path.{_≡_, refl, sym, ap, _∙_, subst}
-use mathlib.Core.Bool.{Bool, true, _&&_, _||_}
-use mathlib.Core.Logic.{_⊎_, inl, inr}
+use mathlib.Core.Bool.{Bool, _&&_, _||_}
+use mathlib.Core.Logic.{inl, inr}
 use Prim.Native.Nat.{ℕ, zero, suc, _+_, _-_, _*_, _<_, _≤_}
-use native.Mathlib.Nat.{mul-assoc, mul-comm, mul-right-comm, mul-le-mul, mul-le-mul-left, mul-le-mul-right}
+use native.Mathlib.Nat.{mul-assoc, mul-comm, mul-le-mul, mul-le-mul-left, mul-le-mul-right}
 use native.Mathlib.Omega.{arith}
 use lib.Dec.{T, eqb, leb, leb→le}
 use borrow.Author.Tests.{ne-eqb}
@@ -16,7 +16,8 @@ use Rattle.card.specs.Modes.{carrierBits}
 use Rattle.card.proofs.CopyLaws.{count-back}
 use Rattle.bands.specs.Bands.{bandCount, carriers}
 use Rattle.payload_layout.specs.declared.Layout.{Layout}
-use Rattle.payload_layout.specs.Layouts.{allInterleavers, groupInterleavers, spanOf, shiftStep, layoutBy, layoutFor, layoutOf, symbolItems, items, groupCarriers, usedCarriers, copyCarriers, groupBits, CarrierBits, Sound, Small, Laid}
+use Rattle.payload_layout.specs.Layouts.{allInterleavers, groupInterleavers, spanOf, shiftStep, layoutBy, layoutFor, layoutOf, items, groupCarriers, copyCarriers}
+use Rattle.payload_layout.specs.Loops.Bounds.{CarrierBits, Sound, Small, Laid}
 use Rattle.payload_layout.proofs.SectionLaws.{copies-le, sound}
 
 pub layout-coded : (band modulation copies coded : ℕ) → layoutOf band modulation copies coded .coded ≡ coded

@@ -1,9 +1,8 @@
 -- What the functions that compute a layout have to hold: one copy by one division, and more by the section's arithmetic. Assumes nothing.
 use mathlib.Core.Path.{_≡_, refl, sym, ap, ap₂, _∙_}
-use mathlib.Core.Bool.{Bool, true, false, cond}
-use mathlib.Core.List.{[], _∷_}
-use Prim.Native.Nat.{ℕ, suc, _+_, _-_, _*_, _/_, _%_, _<_, _≤_}
-use native.Mathlib.Nat.{mul-le-mul, mul-le-mul-left, mul-pos, mul-zero, mul-comm, one-mul, add-mul, div-one, div-le-self, mul-div-cancel, mod-lt, div-eq-of-lt, div-add-mod, div-add-mod'}
+use mathlib.Core.Bool.{Bool, cond}
+use Prim.Native.Nat.{ℕ, _+_, _-_, _*_, _/_, _%_, _<_, _≤_}
+use native.Mathlib.Nat.{mul-le-mul, mul-le-mul-left, mul-pos, mul-zero, one-mul, add-mul, div-one, div-le-self, mul-div-cancel, mod-lt, div-eq-of-lt, div-add-mod, div-add-mod'}
 use native.Mathlib.Omega.{arith}
 use lib.Arith.{digits-div}
 use lib.Dec.{eqb, leb}
@@ -13,7 +12,7 @@ use Rattle.bits.proofs.BoolLaws.{test-cases}
 use Rattle.bits.proofs.NumberLaws.{lt-cases}
 use Rattle.card.specs.Card.{copyCode}
 use Rattle.payload_layout.specs.declared.Layout.{Layout}
-use Rattle.payload_layout.specs.Layouts.{allInterleavers, groupInterleavers, spanOf, usedOf, groupOf, lastSymbolBits, lastGroupBits, padBits, shiftRun, roundedDown, shiftStep, layoutBy, layoutFor}
+use Rattle.payload_layout.specs.Layouts.{interNum, interNumPerGroup, allInterleavers, spanOf, usedOf, groupOf, lastSymbolBits, lastGroupBits, padBits, shiftRun, roundedDown, shiftStep, layoutBy, layoutFor}
 use Rattle.payload_layout.proofs.SectionLaws.{one-interleaver, one-a-group}
 use Rattle.payload_layout.proofs.SectionLaws as section
 
@@ -126,7 +125,7 @@ module _ (carriers bits copies : ℕ) (is : copyCode copies < 6) (enough : allIn
 
 -- the layout that the function makes is the section's, where the code is that of the copies
 pub copied-made : (carriers bits copies coded code group last run step : ℕ) → code ≡ copyCode copies → (copies ≡ 1 → ⊥)
-    → let all : ℕ = getD (1 ∷ 8 ∷ 8 ∷ 10 ∷ 14 ∷ 11 ∷ []) code 0 in
+    → let all : ℕ = getD interNum code 0 in
     let used : ℕ = all * (carriers / all) in
     group ≡ lastGroupBits (bits * used) (bits * (used / copies)) coded → last ≡ lastSymbolBits (bits * used) coded
     → run ≡ shiftRun copies last (bits * (used / copies)) → step ≡ roundedDown (carriers / all / (2 * all))
@@ -138,13 +137,13 @@ pub copied-made : (carriers bits copies coded code group last run step : ℕ) �
       pad = bits * (used / copies) - group;
       copies = copies;
       run = run;
-      interleavers = getD (1 ∷ 4 ∷ 2 ∷ 2 ∷ 2 ∷ 1 ∷ []) code 0;
+      interleavers = getD interNumPerGroup code 0;
       span = carriers / all;
       step = step;
     }) (layoutFor carriers bits copies coded)
 unfolding layoutFor layoutBy padBits usedOf groupOf spanOf shiftStep
 copied-made carriers bits copies coded code group last run step c more g l r t =
-    let all : ℕ → ℕ = λ code. getD (1 ∷ 8 ∷ 8 ∷ 10 ∷ 14 ∷ 11 ∷ []) code 0 in
+    let all : ℕ → ℕ = λ code. getD interNum code 0 in
     let O : ℕ → ℕ = λ code. bits * (all code * (carriers / all code)) in
     let G : ℕ → ℕ = λ code. bits * (all code * (carriers / all code) / copies) in
     let pad : G code - group ≡ G (copyCode copies) - lastGroupBits (O (copyCode copies)) (G (copyCode copies)) coded =
@@ -156,4 +155,4 @@ copied-made carriers bits copies coded code group last run step c more g l r t =
     r ∙ ap (λ (k : ℕ). shiftRun copies k (G code)) l ∙ ap (λ (k : ℕ). shiftRun copies (lastSymbolBits (O k) coded) (G k)) c in
     let step′ : step ≡ cond (eqb copies 1) 0 (roundedDown (carriers / all (copyCode copies) / (2 * all (copyCode copies)))) =
     t ∙ ap (λ (k : ℕ). roundedDown (carriers / all k / (2 * all k))) c ∙ sym (ap (λ (b : Bool). cond b 0 (roundedDown (carriers / all (copyCode copies) / (2 * all (copyCode copies))))) (ne-eqb copies 1 more)) in
-    same-layout carriers bits coded copies symbols pad run′ (ap (λ (k : ℕ). getD (1 ∷ 4 ∷ 2 ∷ 2 ∷ 2 ∷ 1 ∷ []) k 0) c) (ap (λ (k : ℕ). carriers / all k) c) step′
+    same-layout carriers bits coded copies symbols pad run′ (ap (λ (k : ℕ). getD interNumPerGroup k 0) c) (ap (λ (k : ℕ). carriers / all k) c) step′

@@ -1,5 +1,4 @@
 -- Each copy of the padded data stands on its carriers once, in each group and in the whole. Assumes nothing.
-use mathlib.Core.Path.{_≡_}
 use Prim.Native.Nat.{ℕ, zero, _+_, _*_, _/_, _<_}
 use native.Mathlib.Nat.{mul-pos}
 use Rattle.bits.specs.Permutations.{Permutes}
@@ -8,7 +7,8 @@ use Rattle.address_interleaver.specs.Addresses.{circshift, outAddr}
 use Rattle.address_interleaver.proofs.RoundLaws.{shift-permutes}
 use Rattle.address_interleaver.proofs.AddressLaws.{addresses-permute}
 use Rattle.payload_layout.specs.declared.Layout.{Layout}
-use Rattle.payload_layout.specs.Layouts.{groupCarriers, copyCarriers, Sound}
+use Rattle.payload_layout.specs.Layouts.{groupCarriers, copyCarriers}
+use Rattle.payload_layout.specs.Loops.Bounds.{Sound}
 use Rattle.payload_layout.specs.Items.{groupOrder, copyOrder}
 
 -- in order

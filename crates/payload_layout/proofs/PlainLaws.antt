@@ -1,19 +1,20 @@
 -- One copy: the coded bits in order, and from 0 on again, on every carrier. And every used item of a layout carries a coded bit.
 -- Assumes nothing.
-use mathlib.Core.Path.{_≡_, refl, sym, ap, ap₂, _∙_}
-use mathlib.Core.Bool.{Bool, true, cond}
-use Prim.Native.Nat.{ℕ, zero, _+_, _-_, _*_, _/_, _%_, _<_, _≤_}
+use mathlib.Core.Path.{_≡_, sym, ap, ap₂, _∙_}
+use mathlib.Core.Bool.{true, cond}
+use Prim.Native.Nat.{ℕ, zero, _+_, _-_, _*_, _/_, _%_, _<_}
 use native.Mathlib.Nat.{one-mul, zero-mul, zero-div, mod-lt, mod-eq-of-lt, div-eq-of-lt, div-add-mod', div-lt-iff-lt-mul, mul-assoc, mul-left-comm, mul-pos}
 use native.Mathlib.Omega.{arith}
 use lib.Arith.{digits-lt}
-use lib.Dec.{T, ltb}
+use lib.Dec.{ltb}
 use borrow.Author.Tests.{lt-ltb, le-ltb}
 use Rattle.bits.proofs.NumberLaws.{lt-cases}
 use Rattle.address_interleaver.specs.Addresses.{circshift, outAddr}
 use Rattle.address_interleaver.proofs.RoundLaws.{unshifted}
 use Rattle.address_interleaver.proofs.AddressLaws.{out-still}
 use Rattle.payload_layout.specs.declared.Layout.{Layout}
-use Rattle.payload_layout.specs.Layouts.{symbolItems, items, groupCarriers, usedCarriers, copyCarriers, Sound, Laid}
+use Rattle.payload_layout.specs.Layouts.{items, groupCarriers, usedCarriers, copyCarriers}
+use Rattle.payload_layout.specs.Loops.Bounds.{Sound, Laid}
 use Rattle.payload_layout.specs.Items.{padded, groupOrder, copyOrder, copiedBit, symbolOf, placeOf, used, carried}
 use Rattle.payload_layout.proofs.OrderLaws.{group-pos, copy-pos, copy-permutes}
 

@@ -1,8 +1,7 @@
--- The section's arithmetic gives sound layouts, for every band that has a carrier for each interleaver, every number of bits a carrier and
--- of coded bits, once over the copy count. Assumes nothing.
-use mathlib.Core.Path.{_≡_, refl, sym, ap, ap₂, _∙_, subst, subst₂}
+-- The section's arithmetic gives sound layouts, for any number of carriers that has one for each interleaver, every number of bits a carrier
+-- and of coded bits, once over the copy count. Assumes nothing.
+use mathlib.Core.Path.{_≡_, refl, sym, ap, _∙_, subst, subst₂}
 use mathlib.Core.Bool.{Bool, true, false, cond}
-use mathlib.Core.List.{[], _∷_}
 use Prim.Native.Nat.{ℕ, zero, suc, _+_, _-_, _*_, _/_, _%_, _<_, _≤_}
 use native.Mathlib.Nat.{mul-pos, mul-assoc, mul-comm, mul-left-comm, mul-div-cancel, mul-div-cancel-left, mul-div-le, add-mul, suc-mul, one-mul, zero-mul, mod-lt, div-one, div-add-mod', le-div-iff-mul-le}
 use native.Mathlib.Omega.{arith}
@@ -10,13 +9,13 @@ use lib.Dec.{eqb, leb, ltb, ltb→lt}
 use lib.ListN.{getD}
 use borrow.Author.Tests.{eqb-true, eqb-false, eq-eqb}
 use Rattle.bits.specs.Lists.{lowest}
-use Rattle.bits.proofs.BoolLaws.{test-cases}
 use Rattle.bits.proofs.NumberLaws.{lt-cases}
 use Rattle.bits.proofs.RangeLaws.{agree, under, at-each}
 use Rattle.card.specs.Card.{copyCount, copyCode}
 use Rattle.card.proofs.CopyLaws.{count-back}
 use Rattle.payload_layout.specs.declared.Layout.{Layout}
-use Rattle.payload_layout.specs.Layouts.{allInterleavers, groupInterleavers, spanOf, usedOf, groupOf, lastGroupBits, padBits, shiftRun, shiftStep, layoutBy, layoutFor, Sound}
+use Rattle.payload_layout.specs.Layouts.{interNum, interNumPerGroup, allInterleavers, groupInterleavers, spanOf, usedOf, groupOf, lastGroupBits, padBits, shiftRun, shiftStep, layoutBy, layoutFor, groupCarriers, copyCarriers}
+use Rattle.payload_layout.specs.Loops.Bounds.{Sound}
 
 -- ---- Table 13
 
@@ -28,19 +27,19 @@ module _ (copies : ℕ) (is : copyCode copies < 6) where
   copies-le = omega (arith, count-back copies is, under 6 12 copyCount tt (copyCode copies) is)
 
   pub per-group-pos : zero < groupInterleavers copies
-  per-group-pos = ltb→lt 0 (groupInterleavers copies) (at-each 6 (λ code. ltb 0 (getD (1 ∷ 4 ∷ 2 ∷ 2 ∷ 2 ∷ 1 ∷ []) code 0)) tt (copyCode copies) is)
+  per-group-pos = ltb→lt 0 (groupInterleavers copies) (at-each 6 (λ code. ltb 0 (getD interNumPerGroup code 0)) tt (copyCode copies) is)
 
   -- each copy has interleavers of its own
   pub interleavers-are : allInterleavers copies ≡ copies * groupInterleavers copies
   interleavers-are =
-      agree 6 (λ code. getD (1 ∷ 8 ∷ 8 ∷ 10 ∷ 14 ∷ 11 ∷ []) code 0) (λ code. copyCount code * getD (1 ∷ 4 ∷ 2 ∷ 2 ∷ 2 ∷ 1 ∷ []) code 0) tt (copyCode copies) is
+      agree 6 (λ code. getD interNum code 0) (λ code. copyCount code * getD interNumPerGroup code 0) tt (copyCode copies) is
       ∙ ap (λ (c : ℕ). c * groupInterleavers copies) (count-back copies is)
 
   pub interleavers-pos : zero < allInterleavers copies
   interleavers-pos = rw interleavers-are (mul-pos copies-pos per-group-pos)
 
   pub interleavers-le : allInterleavers copies ≤ 14
-  interleavers-le = omega (arith, under 6 15 (λ code. getD (1 ∷ 8 ∷ 8 ∷ 10 ∷ 14 ∷ 11 ∷ []) code 0) tt (copyCode copies) is)
+  interleavers-le = omega (arith, under 6 15 (λ code. getD interNum code 0) tt (copyCode copies) is)
 
 -- one copy is not interleaved
 pub one-interleaver : allInterleavers 1 ≡ 1
@@ -116,21 +115,30 @@ module _ (carriers copies : ℕ) (is : copyCode copies < 6) (enough : allInterle
     G-pos : zero < G
     G-pos = mul-pos bits-pos (mul-pos (per-group-pos copies is) span-pos)
 
-    sound-by : Sound (layoutBy carriers bits copies coded (copies * G) G)
-    unfolding layoutBy padBits shiftStep spanOf
-    sound-by =
+    abbrev layout : Layout
+    layout = layoutBy carriers bits copies coded (copies * G) G
+
+    full-by : copyCarriers layout * bits ≡ coded + layout .pad
+    unfolding layoutBy padBits spanOf
+    full-by =
         let (x, e) = filled G copies coded G-pos in
         let q : (coded + padBits (copies * G) G coded) / G ≡ x = ap (λ (k : ℕ). k / G) e ∙ mul-div-cancel x G-pos in
+        let group = groupInterleavers copies * spanOf carriers copies in
+        ap (λ (k : ℕ). k * group * bits) q ∙ mul-assoc x group bits ∙ ap (λ (k : ℕ). x * k) (mul-comm group bits) ∙ sym e
+
+    sound-by : Sound layout
+    unfolding layoutBy padBits shiftStep spanOf
+    sound-by =
         let group = groupInterleavers copies * spanOf carriers copies in
         record {
           bits-pos = bits-pos;
           copies-pos = copies-pos copies is;
           run-pos = run-pos copies _ _ (copies-pos copies is);
-          symbols-pos = subst (λ (n : ℕ). zero < n) (sym q) (some x e);
+          symbols-pos = some (layout .symbols) full-by;
           interleavers-pos = per-group-pos copies is;
           span-pos = span-pos;
           there = omega (arith, used-is, used-le);
-          full = ap (λ (k : ℕ). k * group * bits) q ∙ mul-assoc x group bits ∙ ap (λ (k : ℕ). x * k) (mul-comm group bits) ∙ sym e;
+          full = full-by;
           pad-in = omega (arith, mul-comm group bits);
           one-copy = λ o. (
             ap groupInterleavers o ∙ one-a-group,
@@ -139,8 +147,8 @@ module _ (carriers copies : ℕ) (is : copyCode copies < 6) (enough : allInterle
           );
         }
       where
-        some : (x : ℕ) → coded + padBits (copies * G) G coded ≡ x * G → zero < x
-        some zero e = absurd (omega (arith, zero-mul G))
+        some : (x : ℕ) → x * groupCarriers layout * bits ≡ coded + layout .pad → zero < x
+        some zero e = absurd (omega (arith, ap (λ (k : ℕ). k * bits) (zero-mul (groupCarriers layout)), zero-mul bits))
         some (suc x) e = omega arith
 
     pub sound : Sound (layoutFor carriers bits copies coded)

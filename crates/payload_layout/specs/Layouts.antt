@@ -1,10 +1,8 @@
 -- The numbers of a payload's layout: paper 01's for one copy, and those of 5.1.5.5.2 to 5.1.5.5.5 of source 000, whose names stand in
 -- the comments. Assumes nothing.
 use mathlib.Core.Bool.{cond}
-use mathlib.Core.List.{[], _∷_}
-use mathlib.Core.Logic.{_⊎_}
-use mathlib.Core.Path.{_≡_}
-use Prim.Native.Nat.{ℕ, zero, _+_, _-_, _*_, _/_, _%_, _<_, _≤_}
+use mathlib.Core.List.{List, [], _∷_}
+use Prim.Native.Nat.{ℕ, _+_, _-_, _*_, _/_, _%_}
 use lib.Dec.{eqb, ltb, leb}
 use lib.ListN.{getD}
 use Rattle.card.specs.Card.{copyCode}
@@ -12,15 +10,21 @@ use Rattle.card.specs.Modes.{carrierBits}
 use Rattle.bands.specs.Bands.{carriers}
 use Rattle.payload_layout.specs.declared.Layout.{Layout}
 
--- ---- Table 13, by CopyNum, with a column for one copy
+-- ---- Table 13, by the code of CopyNum, with a column for one copy
 
 -- InterNum: the address interleavers of all copies
+abbrev pub interNum : List ℕ
+interNum = 1 ∷ 8 ∷ 8 ∷ 10 ∷ 14 ∷ 11 ∷ []
+
 abbrev pub allInterleavers : ℕ → ℕ
-allInterleavers copies = getD (1 ∷ 8 ∷ 8 ∷ 10 ∷ 14 ∷ 11 ∷ []) (copyCode copies) 0
+allInterleavers copies = getD interNum (copyCode copies) 0
 
 -- InterNumPerGroup: those of a group
+abbrev pub interNumPerGroup : List ℕ
+interNumPerGroup = 1 ∷ 4 ∷ 2 ∷ 2 ∷ 2 ∷ 1 ∷ []
+
 abbrev pub groupInterleavers : ℕ → ℕ
-groupInterleavers copies = getD (1 ∷ 4 ∷ 2 ∷ 2 ∷ 2 ∷ 1 ∷ []) (copyCode copies) 0
+groupInterleavers copies = getD interNumPerGroup (copyCode copies) 0
 
 -- ---- 5.1.5.5.3, of so many carriers (ValidCarrierNum) and copies (CopyNum)
 
@@ -56,7 +60,8 @@ shiftRun copies last G =
     (cond (leb last G) 4 (cond (leb last (2 * G)) 2 (cond (leb last (3 * G)) 4 1)))
     (cond (leb last ((copies - 1) * G)) copies 1)
 
--- ---- 5.1.5.5.5: InterShiftStep; one copy is not interleaved
+-- ---- 5.1.5.5.5: InterShiftStep, by the listing's cases: rounded down to 0 or a power of two. It has none from 16 on, and no band comes
+-- there. One copy is not interleaved.
 
 abbrev pub roundedDown : ℕ → ℕ
 roundedDown s = cond (ltb s 1) 0 (cond (ltb s 2) 1 (cond (ltb s 4) 2 (cond (ltb s 8) 4 (cond (ltb s 16) 8 s))))
@@ -67,7 +72,7 @@ shiftStep carriers copies = cond (eqb copies 1) 0 (roundedDown (spanOf carriers 
 -- ---- the layout
 
 -- of so many coded bits, where a symbol's used carriers have O bits and a group G. A copy has as many groups as there are symbols, since
--- each symbol has room for a group of each copy.
+-- a symbol has room for as many groups as there are copies.
 unfoldable pub layoutBy : ℕ → ℕ → ℕ → ℕ → ℕ → ℕ → Layout
 layoutBy carriers bits copies coded O G =
     record {
@@ -100,7 +105,7 @@ symbolItems L = L .carriers * L .bits
 unfoldable pub items : Layout → ℕ
 items L = L .symbols * symbolItems L
 
--- the most items of a payload: 520 bytes at rate 1/2 as 16QAM on band 3, eleven times
+-- the most items of a payload: 520 bytes at rate 1/2 on band 3, eleven times
 abbrev pub mostItems : ℕ
 mostItems = 101920
 
@@ -117,37 +122,3 @@ copyCarriers L = L .symbols * groupCarriers L
 -- the bits of a group
 abbrev pub groupBits : Layout → ℕ
 groupBits L = groupCarriers L * L .bits
-
--- A sound layout: its groups fill the copies with the coded bits and the pad, and the used carriers are there.
-pub record Sound (L : Layout) : Type 0 where
-  pub bits-pos : zero < L .bits
-  pub copies-pos : zero < L .copies
-  pub run-pos : zero < L .run
-  pub symbols-pos : zero < L .symbols
-  pub interleavers-pos : zero < L .interleavers
-  pub span-pos : zero < L .span
-  pub there : usedCarriers L ≤ L .carriers
-  pub full : copyCarriers L * L .bits ≡ L .coded + L .pad
-  pub pad-in : L .pad ≤ groupBits L
-  -- one copy uses every carrier, in order
-  pub one-copy : L .copies ≡ 1 → (L .interleavers ≡ 1) × (L .span ≡ L .carriers) × (L .step ≡ 0)
-
--- the bits a carrier of BPSK, QPSK or 16QAM
-abbrev pub CarrierBits : ℕ → Type 0
-CarrierBits b = (b ≡ 1) ⊎ (b ≡ 2) ⊎ (b ≡ 4)
-
--- A small one: what its numbers stay below. Of more than one copy a group has few bits, and the interleavers few carriers.
-pub record Small (L : Layout) : Type 0 where
-  pub bits-are : CarrierBits (L .bits)
-  pub coded-in : L .coded < 65536
-  pub items-in : items L < 1048576
-  pub copies-in : L .copies ≤ 11
-  pub step-in : L .step ≤ 2
-  pub group-in : 1 < L .copies → groupBits L ≤ 816
-  pub used-in : 1 < L .copies → usedCarriers L ≤ 410
-
--- the layouts that the payload's loops take: the pads of all copies are within the coded data
-pub record Laid (L : Layout) : Type 0 where
-  pub sound : Sound L
-  pub small : Small L
-  pub within : L .copies * L .pad ≤ L .coded

@@ -5,7 +5,8 @@ ghost use mathlib.Core.Path.{_≡_};
 ghost use Prim.Native.Nat.{_<_, _≤_};
 ghost use Rattle.card.specs.Card.{copyCode};
 ghost use Rattle.bands.specs.Bands.{bandCount};
-ghost use Rattle.payload_layout.specs.Layouts.{allInterleavers, lastSymbolBits, lastGroupBits, shiftRun, roundedDown, layoutFor, layoutOf, items as itemsOf, Laid};
+ghost use Rattle.payload_layout.specs.Layouts.{allInterleavers, lastSymbolBits, lastGroupBits, shiftRun, roundedDown, layoutFor, layoutOf, items as itemsOf};
+ghost use Rattle.payload_layout.specs.Loops.Bounds.{Laid};
 
 // Table 13 of source 000, by copy code, with a column for one copy: the interleavers of all copies, and of a group.
 const ALL_INTERLEAVERS: [usize; 6] = [1, 8, 8, 10, 14, 11];
@@ -73,7 +74,7 @@ fn shift_run(copies: usize, last: usize, group: usize) -> usize
     if last <= 3 * group { 4 } else { 1 }
 }
 
-// The step of addresses: rounded down to a power of two.
+// The step of addresses by the listing's cases: rounded down to 0 or a power of two. It has none from 16 on, and no band comes there.
 fn rounded_down(s: usize) -> usize
     ensures { λ r. ⌜ r ≡ roundedDown s ⌝ }
 {
@@ -123,14 +124,14 @@ fn copied(carriers: usize, bits: usize, copies: usize, coded: usize) -> Layout
     let all = ALL_INTERLEAVERS[code];
     let span = carriers / all;
     let used = all * span;
-    let symbol = bits * used;
-    let group = bits * (used / copies);
-    let pad = group - last_group_bits(symbol, group, coded);
-    let run = shift_run(copies, last_symbol_bits(symbol, coded), group);
+    let symbol_bits = bits * used;
+    let group_bits = bits * (used / copies);
+    let pad = group_bits - last_group_bits(symbol_bits, group_bits, coded);
+    let run = shift_run(copies, last_symbol_bits(symbol_bits, coded), group_bits);
     Layout {
         carriers,
         bits,
-        symbols: (coded + pad) / group,
+        symbols: (coded + pad) / group_bits,
         coded,
         pad,
         copies,

@@ -6,7 +6,8 @@ use native.Mathlib.Omega.{arith}
 use lib.ListN.{length}
 use Rattle.refusal.specs.Outcome.{Outcome}
 use Rattle.payload_layout.specs.declared.Layout.{Layout}
-use Rattle.payload_layout.specs.Layouts.{items, Laid}
+use Rattle.payload_layout.specs.Layouts.{items}
+use Rattle.payload_layout.specs.Loops.Bounds.{Laid}
 use Rattle.payload.specs.Entries.{blockLayout}
 use Rattle.payload.proofs.ModeLaws.{layout-bits, layout-served}
 use Rattle.payload.proofs.EntryLaws.{read-length, read-room, read-item, read-decided}

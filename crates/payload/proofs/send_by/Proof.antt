@@ -8,7 +8,8 @@ use Rattle.refusal.specs.Report.{done}
 use Rattle.refusal.specs.Outcome.{Outcome}
 use Rattle.card.specs.Modes.{blockBytes}
 use Rattle.payload_layout.specs.declared.Layout.{Layout}
-use Rattle.payload_layout.specs.Layouts.{items, Laid}
+use Rattle.payload_layout.specs.Layouts.{items}
+use Rattle.payload_layout.specs.Loops.Bounds.{Laid}
 use Rattle.payload.proofs.ModeLaws.{layout-bits, layout-served}
 use Rattle.payload.proofs.EntryLaws.{send-length, send-room, send-done}
 use borrow.Author.Needs.{needs}

@@ -4,18 +4,18 @@ use Prim.Native.Nat.{ℕ, _+_, _-_, _*_}
 use native.Mathlib.Omega.{arith}
 use lib.ListN.{length}
 use Rattle.payload_layout.specs.Layouts.{groupBits}
-use Rattle.payload_copying.proofs.SlottedLaws.{group-few, carriers-few, group-within, group-from, group-last, pad-within}
+use Rattle.payload_copying.proofs.SlottedLaws.{group-few, carriers-few, group-from, group-last, pad-within}
 use Rattle.votes.proofs.CounterLaws.{adds-all}
 use Rattle.payload_combining.proofs.VoteLaws.{data-adds, pad-adds}
 use borrow.Author.Needs.{needs}
 use Rattle.payload_combining.proofs.count_group.Statement.{statement}
 use Rattle.payload_combining.proofs.count_group.Tie as tie
 
-mul-run : tie.Need-mul-run
-mul-run c = omega (arith, carriers-few _ (c .before .before .before .pre .0))
+mul-group-bits : tie.Need-mul-group-bits
+mul-group-bits c = omega (arith, carriers-few _ (c .before .before .before .pre .0))
 
-mul-run-2 : tie.Need-mul-run-2
-mul-run-2 c = omega (arith, group-few _ (c .before .before .before .before .pre .0))
+mul-group-bits-2 : tie.Need-mul-group-bits-2
+mul-group-bits-2 c = omega (arith, group-few _ (c .before .before .before .before .pre .0))
 
 mul-from : tie.Need-mul-from
 mul-from c =
@@ -93,8 +93,8 @@ pub count-group-spec : {M : Type 1} → statement M
 count-group-spec =
     tie.close
     (tie.spec
-    mul-run
-    mul-run-2
+    mul-group-bits
+    mul-group-bits-2
     mul-from
     add-if1
     count-run-requires

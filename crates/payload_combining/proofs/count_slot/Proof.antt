@@ -1,6 +1,6 @@
 -- `payload_combining::count_slot` meets its contract. Assumes nothing.
 use mathlib.Core.Path.{_≡_, refl, ap}
-use Prim.Native.Nat.{ℕ, _+_, _-_, _*_}
+use Prim.Native.Nat.{ℕ, _+_, _-_, _*_, _≤_}
 use native.Mathlib.Omega.{arith}
 use lib.ListN.{length}
 use Rattle.votes.proofs.CounterLaws.{alone}
@@ -12,17 +12,21 @@ use Rattle.payload_combining.proofs.SpreadLaws.{order-permutes, slot-sp
 use Rattle.payload_combining.proofs.count_slot.Statement.{statement}
 use Rattle.payload_combining.proofs.count_slot.Tie as tie
 
+-- where an order ends in the table
+order-end : (z : tie.Start) → z .args .k * groupCarriers (z .args .l) + groupCarriers (z .args .l) ≤ 410
+order-end z = order-within _ (z .pre .0 .0) (z .args .k) (z .pre .0 .1)
+
 mul-size : tie.Need-mul-size
 mul-size c = omega (arith, carriers-few _ (c .before .before .before .before .before .pre .0 .0))
 
 mul-first : tie.Need-mul-first
-mul-first c = let start = c .before .before .before .before .before in omega (arith, order-within _ (start .pre .0 .0) (start .args .k) (start .pre .0 .1))
+mul-first c = omega (arith, order-end (c .before .before .before .before .before))
 
 add-end : tie.Need-add-end
-add-end c = let start = c .before .before .before .before .before in omega (arith, order-within _ (start .pre .0 .0) (start .args .k) (start .pre .0 .1))
+add-end c = omega (arith, order-end (c .before .before .before .before .before))
 
 mul-spread : tie.Need-mul-spread
-mul-spread c = let start = c .before .before .before .before .before in omega (arith, order-within _ (start .pre .0 .0) (start .args .k) (start .pre .0 .1))
+mul-spread c = omega (arith, order-end (c .before .before .before .before .before))
 
 sub-spread : tie.Need-sub-spread
 sub-spread c = search needs
@@ -31,7 +35,7 @@ part-spread-start : tie.Need-part-spread-start
 part-spread-start c = search needs
 
 part-spread-end : tie.Need-part-spread-end
-part-spread-end c = let start = c .before .before .before .before .before in omega (arith, order-within _ (start .pre .0 .0) (start .args .k) (start .pre .0 .1), start .pre .0 .3 .long)
+part-spread-end c = let start = c .before .before .before .before .before in omega (arith, order-end start, start .pre .0 .3 .long)
 
 spread-requires : tie.Need-spread-requires
 spread-requires c κs =

@@ -19,12 +19,12 @@ use Rattle.payload_combining.proofs.count_symbol.Statement.{statement}
 use Rattle.payload_combining.proofs.count_symbol.Tie as tie
 
 abbrev Inv-loop : tie.InvT-loop
-Inv-loop l y table items group₀ counters₀ run copies s₀ j₀ n₀ group counters s j n =
+Inv-loop l y table items group₀ counters₀ G copies s₀ j₀ n₀ group counters s j n =
     (j ≤ l .copies) × (n ≡ y * symbolItems l + j * groupBits l) × (Standing l s) × (slotNo l s ≡ y * l .copies + j) × (length group ≡ 816)
-    × (length counters ≡ l .coded) × (counters ≡ counted (l .coded) n (carries l) items (middles l)) × (run ≡ groupBits l) × (copies ≡ l .copies)
+    × (length counters ≡ l .coded) × (counters ≡ counted (l .coded) n (carries l) items (middles l)) × (G ≡ groupBits l) × (copies ≡ l .copies)
 
 abbrev μ-loop : tie.MeasureT-loop
-μ-loop l y table items group₀ counters₀ run copies s₀ j₀ n₀ group counters s j n = l .copies - j
+μ-loop l y table items group₀ counters₀ G copies s₀ j₀ n₀ group counters s j n = l .copies - j
 
 -- a slot is within the items
 in-copies : (c : tie.In-loop Inv-loop μ-loop) → c .before .loop .j < c .before .before .before .before .before .before .before .before .before .args .l .copies
@@ -51,11 +51,11 @@ fits c =
       items-rows L s,
     )
 
-mul-run : tie.Need-mul-run Inv-loop μ-loop
-mul-run c = omega (arith, carriers-few _ (c .before .before .before .before .before .pre .0 .0))
+mul-group-bits : tie.Need-mul-group-bits Inv-loop μ-loop
+mul-group-bits c = omega (arith, carriers-few _ (c .before .before .before .before .before .pre .0 .0))
 
-mul-run-2 : tie.Need-mul-run-2 Inv-loop μ-loop
-mul-run-2 c = omega (arith, group-few _ (c .before .before .before .before .before .before .pre .0 .0))
+mul-group-bits-2 : tie.Need-mul-group-bits-2 Inv-loop μ-loop
+mul-group-bits-2 c = omega (arith, group-few _ (c .before .before .before .before .before .before .pre .0 .0))
 
 mul-n : tie.Need-mul-n Inv-loop μ-loop
 mul-n c = omega (arith, symbol-few _ (c .before .before .before .before .before .before .before .pre .0 .0))
@@ -173,8 +173,8 @@ count-symbol-spec =
     (tie.spec
     Inv-loop
     μ-loop
-    mul-run
-    mul-run-2
+    mul-group-bits
+    mul-group-bits-2
     mul-n
     mul-n-2
     loop-holds

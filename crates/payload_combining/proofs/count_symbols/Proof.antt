@@ -8,7 +8,7 @@ use borrow.Author.Needs.{needs}
 use Rattle.bits.proofs.ListLaws.{length-tabulate}
 use Rattle.votes.specs.Loops.Counters.{counted}
 use Rattle.votes.proofs.CounterLaws.{counted-long}
-use Rattle.payload_layout.specs.Layouts.{symbolItems, items, groupBits}
+use Rattle.payload_layout.specs.Layouts.{symbolItems, items}
 use Rattle.payload_layout.specs.Items.{carries}
 use Rattle.payload_copying.specs.Loops.Slots.{slotNo, Standing}
 use Rattle.payload_combining.specs.Loops.Groups.{middles}

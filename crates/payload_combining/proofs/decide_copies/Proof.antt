@@ -3,6 +3,7 @@ use mathlib.Core.Path.{refl, ap, _∙_}
 use Prim.Native.Nat.{_-_}
 use native.Mathlib.Omega.{arith}
 use lib.ListN.{length, take, length-take}
+use Rattle.payload_copying.proofs.SlottedLaws.{addresses-of}
 use borrow.Author.Needs.{needs}
 use Rattle.bits.proofs.ListLaws.{length-written, take-written}
 use Rattle.votes.specs.Loops.Counters.{middle}
@@ -32,7 +33,7 @@ count-symbols-requires : tie.Need-count-symbols-requires
 count-symbols-requires c κs =
     let start = c .before .before .before .before .before .before .before .before .before in
     let n = start .args .l .coded in
-    (start .pre .0, c .before .before .before .before .before .before .table-of .ensures, start .pre .1, ap (take n) (c .before .before .before .before .fill .ensures) ∙ take-written n (λ _. middle) (start .args .out .now))
+    (start .pre .0, addresses-of _ (start .pre .0) _ (c .before .before .before .before .before .before .table-of .ensures), start .pre .1, ap (take n) (c .before .before .before .before .fill .ensures) ∙ take-written n (λ _. middle) (start .args .out .now))
 
 settle-requires : tie.Need-settle-requires
 settle-requires c κs = search needs

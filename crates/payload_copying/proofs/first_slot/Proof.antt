@@ -22,7 +22,7 @@ rem-t6 c = search needs
 returns : tie.Need-returns
 returns c =
     let L = c .before .args .l in (
-      record { place-in = c .before .pre .0 .laid .sound .symbols-pos; group-is = shift-first (L .symbols) (c .before .args .k / L .run) },
+      record { position-in = c .before .pre .0 .laid .sound .symbols-pos; group-is = shift-first (L .symbols) (c .before .args .k / L .run) },
       add-zero _,
     )
 

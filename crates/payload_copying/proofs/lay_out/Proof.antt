@@ -1,6 +1,7 @@
 -- `payload_copying::lay_out` meets its contract. Assumes nothing.
 use native.Mathlib.Omega.{arith}
 use Rattle.payload_copying.specs.Loops.Slots.{Slotted}
+use Rattle.payload_copying.proofs.SlottedLaws.{addresses-of}
 use borrow.Author.Needs.{needs}
 use Rattle.payload_copying.proofs.lay_out.Statement.{statement}
 use Rattle.payload_copying.proofs.lay_out.Tie as tie
@@ -27,7 +28,7 @@ slice-aggregate-lay-symbols c = search needs
 lay-symbols-requires : tie.Need-lay-symbols-requires
 lay-symbols-requires c κs =
     let z = c .before .before .before .before .before .before .before in
-    (slotted (c .before .before .before), c .before .before .table-of .ensures, z .pre .1, omega (arith, z .pre .2))
+    (slotted (c .before .before .before), addresses-of _ (slotted (c .before .before .before)) _ (c .before .before .table-of .ensures), z .pre .1, omega (arith, z .pre .2))
 
 same-length-2 : tie.Need-same-length-2
 same-length-2 c = search needs

@@ -1,12 +1,12 @@
 -- `payload_copying::lay_slot` meets its contract. Assumes nothing.
-use mathlib.Core.Path.{_≡_, refl, ap}
+use mathlib.Core.Path.{refl, ap}
 use mathlib.Core.List.{List}
 use Prim.Native.Nat.{ℕ, _+_, _-_, _*_, _<_, _≤_}
 use native.Mathlib.Omega.{arith}
 use lib.ListN.{take, drop, getD, length, length-take, length-drop}
 use borrow.Author.Needs.{needs}
-use Rattle.payload_layout.specs.Layouts.{groupCarriers}
-use Rattle.payload_layout.specs.Layouts.{groupBits, CarrierBits}
+use Rattle.payload_layout.specs.Layouts.{groupCarriers, groupBits}
+use Rattle.payload_layout.specs.Loops.Bounds.{CarrierBits}
 use Rattle.payload_copying.proofs.SlottedLaws.{group-few, carriers-few, group-within, order-within, pad-within, group-from, group-last}
 use Rattle.payload_copying.proofs.SlotLaws.{orderOf, order-long, order-in, slot-laid, source-data, source-last}
 use Rattle.payload_copying.proofs.lay_slot.Statement.{statement}
@@ -26,26 +26,33 @@ ready z src h =
       order-in L s (z .args .k) (z .pre .1) (z .args .table .now) (z .pre .3) _ _ refl refl src h,
     )
 
-mul-group : tie.Need-mul-group
-mul-group c = omega (arith, carriers-few _ (c .before .before .before .before .pre .0))
+-- where an order ends in the table, and a group in the padded data
+order-end : (z : tie.Start) → z .args .k * groupCarriers (z .args .l) + groupCarriers (z .args .l) ≤ 410
+order-end z = order-within _ (z .pre .0) (z .args .k) (z .pre .1)
+
+group-end : (z : tie.Start) → z .args .g * groupBits (z .args .l) + groupBits (z .args .l) < 66352
+group-end z = omega (arith, group-within _ (z .pre .0) (z .args .g) (z .pre .2), z .pre .0 .laid .small .coded-in, z .pre .0 .laid .sound .pad-in, group-few _ (z .pre .0))
+
+mul-size : tie.Need-mul-size
+mul-size c = omega (arith, carriers-few _ (c .before .before .before .before .pre .0))
 
 mul-first : tie.Need-mul-first
-mul-first c = let start = c .before .before .before .before in omega (arith, order-within _ (start .pre .0) (start .args .k) (start .pre .1))
+mul-first c = omega (arith, order-end (c .before .before .before .before))
 
 add-end : tie.Need-add-end
-add-end c = let start = c .before .before .before .before in omega (arith, order-within _ (start .pre .0) (start .args .k) (start .pre .1))
+add-end c = omega (arith, order-end (c .before .before .before .before))
 
-mul-run : tie.Need-mul-run
-mul-run c = search needs
+mul-group-bits : tie.Need-mul-group-bits
+mul-group-bits c = search needs
 
 mul-from : tie.Need-mul-from
-mul-from c = let start = c .before .before .before .before .before in omega (arith, group-within _ (start .pre .0) (start .args .g) (start .pre .2), start .pre .0 .laid .small .coded-in, start .pre .0 .laid .sound .pad-in, group-few _ (start .pre .0))
+mul-from c = omega (arith, group-end (c .before .before .before .before .before))
 
 add-if1 : tie.Need-add-if1
-add-if1 c = let start = c .before .before .before .before .before in omega (arith, group-within _ (start .pre .0) (start .args .g) (start .pre .2), start .pre .0 .laid .small .coded-in, start .pre .0 .laid .sound .pad-in, group-few _ (start .pre .0))
+add-if1 c = omega (arith, group-end (c .before .before .before .before .before))
 
 mul-gather : tie.Need-mul-gather
-mul-gather c = let start = c .before .before .before .before .before .before in omega (arith, order-within _ (start .pre .0) (start .args .k) (start .pre .1))
+mul-gather c = omega (arith, order-end (c .before .before .before .before .before .before))
 
 sub-gather : tie.Need-sub-gather
 sub-gather c = search needs
@@ -54,7 +61,7 @@ part-gather-start : tie.Need-part-gather-start
 part-gather-start c = search needs
 
 part-gather-end : tie.Need-part-gather-end
-part-gather-end c = let start = c .before .before .before .before .before .before in omega (arith, order-within _ (start .pre .0) (start .args .k) (start .pre .1), start .pre .3 .long)
+part-gather-end c = let start = c .before .before .before .before .before .before in omega (arith, order-end start, start .pre .3 .long)
 
 sub-gather-2 : tie.Need-sub-gather-2
 sub-gather-2 c = search needs
@@ -100,7 +107,7 @@ last-group-requires c κs =
     )
 
 mul-gather-2 : tie.Need-mul-gather-2
-mul-gather-2 c = let start = c .before .before .before .before .before .before .before in omega (arith, order-within _ (start .pre .0) (start .args .k) (start .pre .1))
+mul-gather-2 c = omega (arith, order-end (c .before .before .before .before .before .before .before))
 
 sub-gather-3 : tie.Need-sub-gather-3
 sub-gather-3 c = search needs
@@ -109,7 +116,7 @@ part-gather-start-3 : tie.Need-part-gather-start-3
 part-gather-start-3 c = search needs
 
 part-gather-end-3 : tie.Need-part-gather-end-3
-part-gather-end-3 c = let start = c .before .before .before .before .before .before .before in omega (arith, order-within _ (start .pre .0) (start .args .k) (start .pre .1), start .pre .3 .long)
+part-gather-end-3 c = let start = c .before .before .before .before .before .before .before in omega (arith, order-end start, start .pre .3 .long)
 
 slice-aggregate-gather : tie.Need-slice-aggregate-gather
 slice-aggregate-gather c = search needs
@@ -138,10 +145,10 @@ pub lay-slot-spec : {M : Type 1} → statement M
 lay-slot-spec =
     tie.close
     (tie.spec
-    mul-group
+    mul-size
     mul-first
     add-end
-    mul-run
+    mul-group-bits
     mul-from
     add-if1
     mul-gather

@@ -17,13 +17,13 @@ use Rattle.payload_copying.proofs.lay_symbol.Statement.{statement}
 use Rattle.payload_copying.proofs.lay_symbol.Tie as tie
 
 abbrev Inv-loop : tie.InvT-loop
-Inv-loop l y table coded out₀ run row copies s₀ j₀ n₀ out s j n =
+Inv-loop l y table coded out₀ G row copies s₀ j₀ n₀ out s j n =
     (j ≤ l .copies) × (n ≡ j * groupBits l) × (Standing l s) × (slotNo l s ≡ y * l .copies + j) × (length out ≡ length out₀)
     × (out ≡ written n (λ i. sentOn l (λ b. getD coded b 0) (y * symbolItems l + i)) out₀)
-    × (run ≡ groupBits l) × (row ≡ symbolItems l) × (copies ≡ l .copies)
+    × (G ≡ groupBits l) × (row ≡ symbolItems l) × (copies ≡ l .copies)
 
 abbrev μ-loop : tie.MeasureT-loop
-μ-loop l y table coded out₀ run row copies s₀ j₀ n₀ out s j n = l .copies - j
+μ-loop l y table coded out₀ G row copies s₀ j₀ n₀ out s j n = l .copies - j
 
 -- a slot is within the symbol
 in-copies : (c : tie.In-loop Inv-loop μ-loop) → c .before .loop .j < c .before .before .before .before .before .before .before .before .args .l .copies
@@ -56,11 +56,11 @@ filled c =
     let full : at .n ≡ L .copies * groupBits L = at .inv .1 ∙ ap (λ (k : ℕ). k * groupBits L) last in
     (full, omega (arith, full, used-bits L (start .pre .0 .0)), omega (arith, at .inv .4, start .pre .1 .1), last)
 
-mul-run : tie.Need-mul-run Inv-loop μ-loop
-mul-run c = omega (arith, carriers-few _ (c .before .before .before .before .pre .0 .0))
+mul-group-bits : tie.Need-mul-group-bits Inv-loop μ-loop
+mul-group-bits c = omega (arith, carriers-few _ (c .before .before .before .before .pre .0 .0))
 
-mul-run-2 : tie.Need-mul-run-2 Inv-loop μ-loop
-mul-run-2 c = omega (arith, group-few _ (c .before .before .before .before .before .pre .0 .0))
+mul-group-bits-2 : tie.Need-mul-group-bits-2 Inv-loop μ-loop
+mul-group-bits-2 c = omega (arith, group-few _ (c .before .before .before .before .before .pre .0 .0))
 
 mul-row : tie.Need-mul-row Inv-loop μ-loop
 mul-row c = omega (arith, c .before .before .before .before .before .before .pre .1 .1)
@@ -174,8 +174,8 @@ lay-symbol-spec =
     (tie.spec
     Inv-loop
     μ-loop
-    mul-run
-    mul-run-2
+    mul-group-bits
+    mul-group-bits-2
     mul-row
     loop-holds
     sub-lay-slot

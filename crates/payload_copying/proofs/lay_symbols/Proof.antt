@@ -9,7 +9,7 @@ use Rattle.bits.specs.Lists.{written}
 use Rattle.bits.proofs.NumberLaws.{row-next, row-within}
 use Rattle.bits.proofs.ListLaws.{written-none, written-part, written-all}
 use Rattle.payload_layout.specs.Items.{sentOn}
-use Rattle.payload_layout.specs.Layouts.{items, symbolItems}
+use Rattle.payload_layout.specs.Layouts.{symbolItems}
 use Rattle.payload_copying.specs.Loops.Slots.{slotNo, Standing}
 use Rattle.payload_copying.proofs.SlottedLaws.{symbol-few, items-rows}
 use Rattle.payload_copying.proofs.lay_symbols.Statement.{statement}

@@ -9,8 +9,8 @@ use Rattle.address_interleaver.proofs.RoundLaws.{shift-next}
 use Rattle.payload_copying.proofs.next_slot.Statement.{statement}
 use Rattle.payload_copying.proofs.next_slot.Tie as tie
 
-add-place : tie.Need-add-place
-add-place c = search needs
+add-position : tie.Need-add-position
+add-position c = search needs
 
 next-place-requires : tie.Need-next-place-requires
 next-place-requires c κs =
@@ -27,8 +27,8 @@ returns c =
     let L = start .args .l in
     let s = start .args .s in (
       record {
-        place-in = omega arith;
-        group-is = c .next-place .ensures .0 ∙ shift-next (L .symbols) (s .copy / L .run) (s .place) (s .group) (start .pre .1 .group-is);
+        position-in = omega arith;
+        group-is = c .next-place .ensures .0 ∙ shift-next (L .symbols) (s .copy / L .run) (s .position) (s .group) (start .pre .1 .group-is);
       },
       omega arith,
     )
@@ -45,4 +45,4 @@ returns-2 c = search needs
 pub next-slot-spec : {M : Type 1} → statement M
 next-slot-spec =
     tie.close
-    (tie.spec add-place next-place-requires returns add-first-slot first-slot-requires returns-2)
+    (tie.spec add-position next-place-requires returns add-first-slot first-slot-requires returns-2)

@@ -4,7 +4,9 @@ use Prim.Native.Nat.{ℕ, _-_}
 use native.Mathlib.Omega.{arith}
 use lib.ListN.{length, length-replicate}
 use borrow.Author.Needs.{needs}
-use Rattle.payload_copying.proofs.SlottedLaws.{carriers-few, addresses-of, total-few, used-few, used-product}
+use Rattle.bits.specs.Lists.{written}
+use Rattle.bits.proofs.ListLaws.{written-all}
+use Rattle.payload_copying.proofs.SlottedLaws.{carriers-few, total-few, used-few, used-product}
 use Rattle.payload_copying.proofs.table_of.Statement.{statement}
 use Rattle.payload_copying.proofs.table_of.Tie as tie
 
@@ -35,7 +37,7 @@ returns : tie.Need-returns
 returns c =
     let start = c .before .before .before .before .before in
     let none = c .before .before .before .before .no-addresses in
-    addresses-of (start .args .l) (start .pre) _ _ (ap length (none .ensures) ∙ length-replicate {A = ℕ} 410 0) (c .before .fill-table .ensures)
+    written-all _ _ _ _ _ (c .before .fill-table .ensures ∙ ap (written _ _) (none .ensures)) (used-product (start .args .l) (start .pre))
 
 pub table-of-spec : {M : Type 1} → statement M
 table-of-spec =

@@ -1,4 +1,4 @@
--- Slots: a symbol has room for as many groups of carriers as there are copies, and these slots count on over the symbols. Slot t is place
+-- Slots: a symbol has room for as many groups of carriers as there are copies, and these slots count on over the symbols. Slot t is position
 -- t % symbols of copy t / symbols. Assumes nothing.
 use mathlib.Core.Path.{_≡_}
 use mathlib.Core.List.{List}
@@ -7,7 +7,8 @@ use lib.ListN.{getD, length}
 use Rattle.address_interleaver.specs.Addresses.{circshift}
 use Rattle.address_interleaver.specs.Loops.Table.{addressOf}
 use Rattle.payload_layout.specs.declared.Layout.{Layout}
-use Rattle.payload_layout.specs.Layouts.{groupCarriers, usedCarriers, groupBits, CarrierBits, Laid}
+use Rattle.payload_layout.specs.Layouts.{groupCarriers, usedCarriers}
+use Rattle.payload_layout.specs.Loops.Bounds.{Laid}
 use Rattle.payload_layout.specs.Items.{groupOrder, padded}
 use Rattle.payload_copying.specs.declared.Slot.{Slot}
 
@@ -27,11 +28,11 @@ pub record Addresses (L : Layout) (table : List ℕ) : Type 0 where
 
 -- a slot's number, and that the group which it names stands there
 abbrev pub slotNo : Layout → Slot → ℕ
-slotNo L s = s .copy * L .symbols + s .place
+slotNo L s = s .copy * L .symbols + s .position
 
 pub record Standing (L : Layout) (s : Slot) : Type 0 where
-  pub place-in : s .place < L .symbols
-  pub group-is : s .group ≡ circshift (L .symbols) (s .copy / L .run) (s .place)
+  pub position-in : s .position < L .symbols
+  pub group-is : s .group ≡ circshift (L .symbols) (s .copy / L .run) (s .position)
 
 -- the coded bit on item i of a slot in which group g of copy k stands
 unfoldable pub slotBit : Layout → ℕ → ℕ → ℕ → ℕ

@@ -1,9 +1,8 @@
 -- `payload_layout::copied` meets its contract: the section's numbers, by the code of the copies. Assumes nothing.
-use mathlib.Core.List.{[], _∷_}
 use Prim.Native.Nat.{ℕ, _*_, _/_, _<_, _≤_}
 use native.Mathlib.Omega.{arith}
 use lib.ListN.{getD}
-use Rattle.payload_layout.specs.Layouts.{spanOf, usedOf, groupOf}
+use Rattle.payload_layout.specs.Layouts.{interNum, spanOf, usedOf, groupOf}
 use Rattle.payload_layout.proofs.SectionLaws.{copies-le, interleavers-pos, interleavers-le, used-le}
 use Rattle.payload_layout.proofs.NumberLaws.{symbol-pos, symbol-lt, group-pos, group-lt, copied-made}
 use borrow.Author.Needs.{needs}
@@ -12,7 +11,7 @@ use Rattle.payload_layout.proofs.copied.Tie as tie
 
 -- the interleavers that the table has, and the carriers that they use
 abbrev all : tie.After-copy-code → ℕ
-all c = getD (1 ∷ 8 ∷ 8 ∷ 10 ∷ 14 ∷ 11 ∷ []) (c .copy-code .result) 0
+all c = getD interNum (c .copy-code .result) 0
 
 abbrev uses : tie.After-copy-code → ℕ
 uses c = all c * (c .before .args .carriers / all c)
@@ -67,14 +66,14 @@ div-span c = some-interleavers c .0
 mul-used : tie.Need-mul-used
 mul-used c = omega (arith, some-used c)
 
-mul-symbol : tie.Need-mul-symbol
-mul-symbol c = omega (arith, symbol c)
+mul-symbol-bits : tie.Need-mul-symbol-bits
+mul-symbol-bits c = omega (arith, symbol c)
 
-div-group : tie.Need-div-group
-div-group c = search needs
+div-group-bits : tie.Need-div-group-bits
+div-group-bits c = search needs
 
-mul-group : tie.Need-mul-group
-mul-group c = omega (arith, group c)
+mul-group-bits : tie.Need-mul-group-bits
+mul-group-bits c = omega (arith, group c)
 
 last-group-bits-requires : tie.Need-last-group-bits-requires
 last-group-bits-requires c κs = (symbol c .0, group c .0)
@@ -130,9 +129,9 @@ copied-spec =
     array-read-all
     div-span
     mul-used
-    mul-symbol
-    div-group
-    mul-group
+    mul-symbol-bits
+    div-group-bits
+    mul-group-bits
     last-group-bits-requires
     sub-pad
     last-symbol-bits-requires

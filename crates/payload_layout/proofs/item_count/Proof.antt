@@ -1,9 +1,9 @@
 -- `payload_layout::item_count` meets its contract. Assumes nothing.
 use mathlib.Core.Path.{refl}
-use Prim.Native.Nat.{_*_, _≤_}
+use Prim.Native.Nat.{_*_}
 use native.Mathlib.Nat.{le-mul-of-pos-right, mul-comm}
 use native.Mathlib.Omega.{arith}
-use Rattle.payload_layout.specs.Layouts.{symbolItems, items}
+use Rattle.payload_layout.specs.Layouts.{items}
 use Rattle.payload_layout.proofs.item_count.Statement.{statement}
 use Rattle.payload_layout.proofs.item_count.Tie as tie
 

@@ -1,5 +1,5 @@
 -- `payload_layout::last_group_bits` meets its contract. Assumes nothing.
-use Prim.Native.Nat.{_-_, _%_, _≤_}
+use Prim.Native.Nat.{_-_, _%_}
 use native.Mathlib.Nat.{mul-div-le, mod-le}
 use native.Mathlib.Omega.{arith}
 use borrow.Author.Needs.{needs}

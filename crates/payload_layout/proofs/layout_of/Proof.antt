@@ -2,7 +2,6 @@
 use mathlib.Core.Path.{_≡_, ap, ap₂, _∙_}
 use Prim.Native.Nat.{ℕ, _<_, _≤_}
 use native.Mathlib.Omega.{arith}
-use Rattle.card.specs.Card.{copyCode}
 use Rattle.card.specs.Modes.{carrierBits}
 use Rattle.bands.specs.Bands.{carriers}
 use Rattle.payload_layout.specs.Layouts.{layoutFor, layoutOf}
@@ -34,7 +33,8 @@ one-copy-requires : tie.Need-one-copy-requires
 one-copy-requires c κs =
     let bits = c .before in
     let start = bits .before .before in
-    (some-carriers (bits .before) .0, some-carriers (bits .before) .1, some-bits bits .0, some-bits bits .1, start .pre .3, start .pre .4)
+    let few = some-bits bits in
+    (some-carriers (bits .before) .0, some-carriers (bits .before) .1, omega (arith, few), omega (arith, few), start .pre .3, start .pre .4)
 
 returns : tie.Need-returns
 unfolding layoutOf
