@@ -3,6 +3,7 @@
 //
 // Internal: nothing here is a public entry, and callers show what a function requires.
 use bands::Place;
+use votes::MIDDLE;
 ghost use mathlib.Core.Path.{_≡_};
 ghost use Prim.Native.Nat.{_+_, _*_, _/_, _%_, _<_, _≤_};
 ghost use lib.ListN.{length, getD, replicate};
@@ -13,9 +14,7 @@ ghost use Rattle.diversity.specs.Lanes.{laneBit, itemCount};
 ghost use Rattle.diversity.specs.Loops.Cycle.{cycleLane};
 ghost use Rattle.combining.specs.Loops.Counters.{pairSum, bitSum};
 
-// Where a counter starts. There is one for each lane of the cycle, and a bit has two.
-const MIDDLE: u8 = 128;
-
+// Where the sum of two counters starts. There is one for each lane of the cycle, and a bit has two.
 const TWO_MIDDLES: u16 = 256;
 
 // The votes of one symbol's items, from item n on, run by run.

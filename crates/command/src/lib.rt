@@ -5,7 +5,7 @@
 use libc::STDERR_FILENO;
 use refusal::Refusal;
 ghost use mathlib.Core.Path.{_≡_};
-ghost use lib.ListN.{length};
+ghost use lib.ListN.{length, replicate};
 ghost use Rattle.io.specs.Counts.{Counts};
 ghost use Rattle.job.specs.Jobs.{refusalLines};
 
@@ -43,7 +43,7 @@ pub fn called_with(arguments: usize, usage: &[u8]) -> bool {
 
 // Memory for a file. Of a file the first 131,072 bytes are read, which is more than any entry takes (D19).
 pub fn file_buffer() -> [u8; 131072]
-    ensures { λ r. ⌜ 131072 ≡ length r ⌝ }
+    ensures { λ r. ⌜ (r ≡ replicate 131072 0) × (131072 ≡ length r) ⌝ }
 {
     [0u8; 131072]
 }

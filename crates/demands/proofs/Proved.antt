@@ -188,7 +188,7 @@ unused-silent card block good is out room n h u = (
 )
 
 pub unused-unheard : UnusedUnheard
-unused-unheard card good left right back dl dr room same = alike card good left right back dl dr room same
+unused-unheard card good left right back dl dr same = alike card good left right back dl dr same
 
 pub lengths : Lengths
 unfolding itemCount carrierCount carriers offsets

@@ -29,7 +29,7 @@ use Rattle.votes.specs.Damage.{Damage, altered, lost}
 use Rattle.bands.specs.Bands.{bandCount, carriers, offsets}
 use Rattle.diversity.specs.Lanes.{laneBit, carrierCount, itemCount}
 use Rattle.diversity.specs.Copies.{copiesOn, fewestCopies, bandFewest, bandMost}
-use Rattle.payload_layout.specs.Layouts.{layoutOf, items as itemsOf}
+use Rattle.payload_layout.specs.Layouts.{layoutOf, items as itemsOf, mostItems}
 use Rattle.payload_layout.specs.Items.{used, carried, carries}
 use Rattle.payload.specs.Entries.{layoutOfCard, send as payloadSend, read as payloadRead}
 use Rattle.payload.specs.Words.{GoodCard as GoodPayloadCard, Block, made as payloadMade}
@@ -152,27 +152,24 @@ BestPossible =
 
 -- ---- Beyond the demands
 
--- A payload block comes back exact whenever for each coded bit twice its wrong copies plus its lost copies is below its copies.
-abbrev pub PayloadSurvives : Type 0
-PayloadSurvives =
+-- A payload block comes back exact whenever for each coded bit twice its wrong copies plus its lost copies is below a bound.
+abbrev pub SurvivesBelow : (List ℕ → ℕ → ℕ) → Type 0
+SurvivesBelow bound =
     (card block : List ℕ) → GoodPayloadCard card → Block (cardOf card .kind) block → (out received back : List ℕ) → itemsOf (layoutOfCard card) ≤ length out
     → Damage (itemsOf (layoutOfCard card)) received → blockBytes (cardOf card .kind) ≤ length back
     → ((b : ℕ) → b < codedBits (cardOf card .kind) (cardOf card .rate)
     → 2 * wrongCopies (itemsOf (layoutOfCard card)) (carries (layoutOfCard card)) (payloadMade card block out) received b
     + lostCopies (itemsOf (layoutOfCard card)) (carries (layoutOfCard card)) received b
-    < copies (itemsOf (layoutOfCard card)) (carries (layoutOfCard card)) b)
+    < bound card b)
     → payloadRead card received back ≡ record { report = done (blockBytes (cardOf card .kind)); out = block ++ drop (blockBytes (cardOf card .kind)) back }
 
--- So it does whenever for each coded bit they are below the copy count that the card says.
+-- So it does below the copies of the bit.
+abbrev pub PayloadSurvives : Type 0
+PayloadSurvives = SurvivesBelow (λ card b. copies (itemsOf (layoutOfCard card)) (carries (layoutOfCard card)) b)
+
+-- So it does below the copy count that the card says.
 abbrev pub PayloadSurvivesCopies : Type 0
-PayloadSurvivesCopies =
-    (card block : List ℕ) → GoodPayloadCard card → Block (cardOf card .kind) block → (out received back : List ℕ) → itemsOf (layoutOfCard card) ≤ length out
-    → Damage (itemsOf (layoutOfCard card)) received → blockBytes (cardOf card .kind) ≤ length back
-    → ((b : ℕ) → b < codedBits (cardOf card .kind) (cardOf card .rate)
-    → 2 * wrongCopies (itemsOf (layoutOfCard card)) (carries (layoutOfCard card)) (payloadMade card block out) received b
-    + lostCopies (itemsOf (layoutOfCard card)) (carries (layoutOfCard card)) received b
-    < cardOf card .copies)
-    → payloadRead card received back ≡ record { report = done (blockBytes (cardOf card .kind)); out = block ++ drop (blockBytes (cardOf card .kind)) back }
+PayloadSurvivesCopies = SurvivesBelow (λ card b. cardOf card .copies)
 
 -- Each coded bit of a payload has as many copies as its card says, and one more where a pad repeats it, so at most twelve.
 abbrev pub PayloadCopies : Type 0
@@ -200,7 +197,6 @@ UnusedSilent =
 abbrev pub UnusedUnheard : Type 0
 UnusedUnheard =
     (card : List ℕ) → GoodPayloadCard card → (left right back : List ℕ) → Damage (itemsOf (layoutOfCard card)) left → Damage (itemsOf (layoutOfCard card)) right
-    → blockBytes (cardOf card .kind) ≤ length back
     → ((n b : ℕ) → n < itemsOf (layoutOfCard card) → T (carries (layoutOfCard card) n b) → getD left n 0 ≡ getD right n 0)
     → payloadRead card left back ≡ payloadRead card right back
 
@@ -227,4 +223,4 @@ CardPadWithin =
 abbrev pub Lengths : Type 0
 Lengths =
     ((band : ℕ) → band < bandCount → itemCount (carriers band) (offsets band) ≡ getD (3288 ∷ 3144 ∷ 2136 ∷ 1176 ∷ []) band 0)
-    × ((card : List ℕ) → GoodPayloadCard card → (itemsOf (layoutOfCard card) ≤ 101920) × (blockBytes (cardOf card .kind) ≤ 520))
+    × ((card : List ℕ) → GoodPayloadCard card → (itemsOf (layoutOfCard card) ≤ mostItems) × (blockBytes (cardOf card .kind) ≤ 520))

@@ -9,10 +9,11 @@ use lib.ListN.{length, getD, take, drop}
 use borrow.Author.Tests.{le-ltb}
 use Rattle.bits.specs.Bits.{bitOf, bytesOf}
 use Rattle.bits.specs.Lists.{tabulate, written}
+use Rattle.bits.proofs.NumberLaws.{lt-cases}
 use Rattle.bits.proofs.BitLaws.{Binary, same-bits, bytes-bits}
 use Rattle.bits.proofs.ListLaws.{length-tabulate, getD-tabulate, lowest-none, take-written}
-use Rattle.refusal.specs.declared.Refusal.the-variants.{Parity}
-use Rattle.refusal.specs.Report.{done, refused}
+use Rattle.refusal.specs.declared.Refusal.the-variants.{Room, Parity}
+use Rattle.refusal.specs.Report.{done, refused, refusal}
 use Rattle.refusal.specs.Outcome.{Outcome}
 use Rattle.refusal.proofs.OutcomeLaws.{outcome-good}
 use Rattle.card.specs.Card.{cardOf}
@@ -38,7 +39,7 @@ use Rattle.payload_layout.proofs.ItemLaws.{sent-binary, decided-clean, decided-
 use Rattle.payload.specs.Entries.{layoutOfCard, sentItem, send, decidedBit, blockMade, decidedBlock, read}
 use Rattle.payload.specs.Words.{GoodCard, Block, made}
 use Rattle.payload.proofs.ModeLaws.{layout-bits, copies-as-said, layout-served}
-use Rattle.payload.proofs.EntryLaws.{send-passed, send-done, read-passed, read-decided, block-refused}
+use Rattle.payload.proofs.EntryLaws.{send-passed, send-done, read-passed, read-room, read-decided, block-refused}
 
 -- the coded bits of a block under a card
 abbrev pub blockBits : List ℕ → List ℕ → ℕ → ℕ
@@ -72,14 +73,23 @@ module _ (card : List ℕ) (good : GoodCard card) where
       ∙ read-decided (cardOf card) received back (damage .long) room
       (omega (arith, none-above (items (layoutOfCard card)) received damage))
 
+  -- and into a shorter room it is refused
+  read-short : (received back : List ℕ) → Damage (items (layoutOfCard card)) received → length back < blockBytes (cardOf card .kind)
+      → read card received back ≡ record { report = refusal (Room (blockBytes (cardOf card .kind))); out = back }
+  read-short received back damage short =
+      read-passed card received back (cardOf card) good
+      ∙ read-room (cardOf card) received back (damage .long) short
+
   -- Items that carry no bit have no vote: receptions that agree on the others come to the same.
-  pub alike : (left right back : List ℕ) → Damage (items (layoutOfCard card)) left → Damage (items (layoutOfCard card)) right → blockBytes (cardOf card .kind) ≤ length back
+  pub alike : (left right back : List ℕ) → Damage (items (layoutOfCard card)) left → Damage (items (layoutOfCard card)) right
       → ((n b : ℕ) → n < items (layoutOfCard card) → T (carries (layoutOfCard card) n b) → getD left n 0 ≡ getD right n 0)
       → read card left back ≡ read card right back
   unfolding decidedBit
-  alike left right back dl dr room same =
-      read-good left back dl room
-      ∙ ap (λ (e : ℕ → ℕ). decidedBlock (cardOf card .kind) (cardOf card .rate) (cardOf card .taps) e back) (λ i b. each b i) ∙ sym (read-good right back dr room)
+  alike left right back dl dr same =
+      lt-cases (length back) (blockBytes (cardOf card .kind))
+      (λ short. read-short left back dl short ∙ sym (read-short right back dr short))
+      (λ room. read-good left back dl room
+      ∙ ap (λ (e : ℕ → ℕ). decidedBlock (cardOf card .kind) (cardOf card .rate) (cardOf card .taps) e back) (λ i b. each b i) ∙ sym (read-good right back dr room))
     where
       each : (b : ℕ) → decidedBit (layoutOfCard card) left b ≡ decidedBit (layoutOfCard card) right b
       each b = own-items (items (layoutOfCard card)) (carries (layoutOfCard card)) left right b (λ n h t. same n b h t)
@@ -172,24 +182,24 @@ module _ (card : List ℕ) (good : GoodCard card) where
             decided-clean (layoutOfCard card) (blockBits card block) sent b (bits-binary b) laid
             (rw (layout-bits (cardOf card)) h) at-item
 
-    -- The law of the majority: legal items of which each coded bit has twice its wrong copies and its lost copies below its copies give
-    -- the block back exact.
-    pub survives : (out received back : List ℕ) → items (layoutOfCard card) ≤ length out → Damage (items (layoutOfCard card)) received → blockBytes (cardOf card .kind) ≤ length back
+    -- legal items of which each coded bit has twice its wrong copies and its lost copies below a bound give the block back exact
+    abbrev Back : (ℕ → ℕ) → Type 0
+    Back bound =
+        (out received back : List ℕ) → items (layoutOfCard card) ≤ length out → Damage (items (layoutOfCard card)) received → blockBytes (cardOf card .kind) ≤ length back
         → ((b : ℕ) → b < codedBits (cardOf card .kind) (cardOf card .rate)
         → 2 * wrongCopies (items (layoutOfCard card)) (carries (layoutOfCard card)) (made card block out) received b + lostCopies (items (layoutOfCard card)) (carries (layoutOfCard card)) received b
-        < copies (items (layoutOfCard card)) (carries (layoutOfCard card)) b)
+        < bound b)
         → read card received back ≡ record { report = done (blockBytes (cardOf card .kind)); out = block ++ drop (blockBytes (cardOf card .kind)) back }
+
+    -- The law of the majority: so they do below the bit's copies.
+    pub survives : Back (copies (items (layoutOfCard card)) (carries (layoutOfCard card)))
     unfolding decidedBit
     survives out received back room damage space few =
         block-back received back damage space (λ b h.
         decided-damaged (layoutOfCard card) (blockBits card block) received b (bits-binary b) (damage .legal) (rw (made-is out room) at (few b h)))
 
-    -- So do those of which each coded bit has them below the card's copy count.
-    pub survives-copies : (out received back : List ℕ) → items (layoutOfCard card) ≤ length out → Damage (items (layoutOfCard card)) received → blockBytes (cardOf card .kind) ≤ length back
-        → ((b : ℕ) → b < codedBits (cardOf card .kind) (cardOf card .rate)
-        → 2 * wrongCopies (items (layoutOfCard card)) (carries (layoutOfCard card)) (made card block out) received b + lostCopies (items (layoutOfCard card)) (carries (layoutOfCard card)) received b
-        < cardOf card .copies)
-        → read card received back ≡ record { report = done (blockBytes (cardOf card .kind)); out = block ++ drop (blockBytes (cardOf card .kind)) back }
+    -- So they do below the card's copy count.
+    pub survives-copies : Back (λ b. cardOf card .copies)
     survives-copies out received back room damage space few =
         survives out received back room damage space (λ b h. omega (arith, few b h, copies-at-least b h))
 

@@ -22,12 +22,12 @@ ghost use Rattle.payload.specs.Loops.Blocks.{LaidBlock};
 ghost use Rattle.payload.specs.Entries.{sentItem, sendBy, send as sendOutcome, decidedBit, decidedBlock, readBy, read as readOutcome};
 
 // The layout of a block's coded bits, in as many copies as the card says. By numbers: a card handed over whole takes longer than this.
-fn block_layout(band: usize, kind: usize, rate: usize, modulation: usize, copies: usize) -> Layout
+fn block_layout(band: u64, kind: u64, rate: u64, modulation: u64, copies: u64) -> Layout
     requires { ⌜ (band < bandCount) × (Defined kind rate) × (modulation < 3) × (copyCode copies < 6) ⌝ }
     ensures { λ l. ⌜ l ≡ layoutOf band modulation copies (codedBits kind rate) ⌝ }
 {
-    let coded = interleaver_shape::coded_bits(kind, rate);
-    payload_layout::layout_of(band, modulation, copies, coded)
+    let coded = interleaver_shape::coded_bits(kind as usize, rate as usize);
+    payload_layout::layout_of(band as usize, modulation as usize, copies as usize, coded)
 }
 
 // ---- sending
@@ -52,13 +52,7 @@ fn send_by(c: Card, block: &[u8], out: &mut [u8]) -> Answer
     ensures answer { λ r. ⌜ answer r ≡ sendBy c (now (block .entry)) (now (out .entry)) .report ⌝ }
     ensures items { λ _. ⌜ now (out .exit) ≡ sendBy c (now (block .entry)) (now (out .entry)) .out ⌝ }
 {
-    let l = block_layout(
-        c.band as usize,
-        c.kind as usize,
-        c.rate as usize,
-        c.modulation as usize,
-        c.copies as usize,
-    );
+    let l = block_layout(c.band, c.kind, c.rate, c.modulation, c.copies);
     let size = card::block_bytes(c.kind as usize);
     let needed = payload_layout::item_count(l);
     if block.len() != size {
@@ -123,13 +117,7 @@ fn read_by(c: Card, items: &[u8], out: &mut [u8]) -> Answer
     ensures answer { λ r. ⌜ answer r ≡ readBy c (now (items .entry)) (now (out .entry)) .report ⌝ }
     ensures bytes { λ _. ⌜ now (out .exit) ≡ readBy c (now (items .entry)) (now (out .entry)) .out ⌝ }
 {
-    let l = block_layout(
-        c.band as usize,
-        c.kind as usize,
-        c.rate as usize,
-        c.modulation as usize,
-        c.copies as usize,
-    );
+    let l = block_layout(c.band, c.kind, c.rate, c.modulation, c.copies);
     if items.len() != payload_layout::item_count(l) {
         return Answer::Refused(Refusal::Length(items.len()));
     }

@@ -13,7 +13,7 @@ use Rattle.bits.proofs.NumberLaws.{lt-cases, row-within}
 use Rattle.bits.proofs.ListLaws.{tabulate-ext}
 use Rattle.bits.proofs.SumLaws.{count-ext}
 use Rattle.bits.proofs.PermutationLaws.{permutes-ext, rows-permute, sum-permuted}
-use Rattle.votes.specs.Votes.{votes}
+use Rattle.votes.specs.Votes.{carries as carriesOn, votes}
 use Rattle.votes.specs.Loops.Counters.{counted}
 use Rattle.payload_layout.specs.declared.Layout.{Layout}
 use Rattle.payload_layout.specs.Layouts.{groupCarriers, groupBits}
@@ -65,7 +65,7 @@ module _ (L : Layout) (z : Slotted L) (k g : ℕ) where
 
   slot-votes : (items group : List ℕ) → ((i : ℕ) → i < groupBits L → getD group (slotOrder L k i) 0 ≡ getD items i 0) → (b v : ℕ)
       → votes (groupBits L) (groupOn L k g) group b v ≡ votes (groupBits L) (slotOn L k g) items b v
-  unfolding votes count slotOn groupOn
+  unfolding votes count slotOn groupOn carriesOn
   slot-votes items group w b v =
       let h : ℕ → ℕ = λ x. cond (groupOn L k g x b && eqb (getD group x 0) v) 1 0 in
       sym (sum-permuted (groupBits L) (slotOrder L k) slot-permutes h)

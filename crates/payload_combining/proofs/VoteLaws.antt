@@ -62,7 +62,7 @@ module _ (L : Layout) (k g from : ℕ) (f : from ≡ g * groupBits L) where
 module _ (L : Layout) (z : Slotted L) where
   slot-is : (y j : ℕ) (s : Slot) → y < L .symbols → j < L .copies → Standing L s → slotNo L s ≡ y * L .copies + j
       → (n : ℕ) → n ≡ y * symbolItems L + j * groupBits L → (i : ℕ) → i < groupBits L → (b : ℕ) → slotOn L (s .copy) (s .group) i b ≡ carries L (n + i) b
-  unfolding slotOn
+  unfolding slotOn carriesOn
   slot-is y j s hy hj at num n e i l b =
       let p : y * symbolItems L + (j * groupBits L + i) ≡ n + i = omega arith in
       slot-test L z y j s hy hj at num i l b ∙ ap (λ (m : ℕ). carries L m b) p

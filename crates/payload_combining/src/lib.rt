@@ -3,6 +3,7 @@
 // Internal: nothing here is a public entry, and callers show what a function requires.
 use payload_copying::Slot;
 use payload_layout::Layout;
+use votes::MIDDLE;
 ghost use mathlib.Core.Path.{_≡_};
 ghost use Prim.Native.Nat.{ℕ, _+_, _*_, _<_, _≤_};
 ghost use lib.ListN.{length, getD};
@@ -179,10 +180,7 @@ fn count_symbols(l: Layout, table: &[u16], items: &[u8], counters: &mut [u8])
     }
 }
 
-// Where each counter starts.
-const MIDDLE: u8 = 128;
-
-// What a counter decides.
+// What a counter decides: it stands above the middle for more ones than zeros, and below for fewer.
 fn settled(counter: u8) -> u8
     ensures { λ r. ⌜ r ≡ majorityOf middle counter ⌝ }
 {

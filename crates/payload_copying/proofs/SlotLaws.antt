@@ -49,9 +49,6 @@ module _ (L : Layout) (s : Slotted L) where
   -- ---- the order
 
   module _ (k : ℕ) (hk : k < L .copies) (table : List ℕ) (t : Addresses L table) (first end : ℕ) (f : first ≡ k * groupCarriers L) (e : end ≡ first + groupCarriers L) where
-    few : end - first ≡ groupCarriers L
-    few = omega arith
-
     pub order-long : length (orderOf first end table) ≡ groupCarriers L
     order-long = simp (length-take, length-drop) (omega (arith, order-within L s k hk, t .long))
 

@@ -98,6 +98,7 @@ pub fn copy_carrier(bits: usize, src: &[u8], from: usize, out: &mut [u8], to: us
     out[to] = src[from];
 }
 
+// An address as an index.
 pub fn wide(x: u16) -> usize
     ensures { λ r. ⌜ r ≡ x ⌝ }
 {

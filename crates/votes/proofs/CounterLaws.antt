@@ -87,16 +87,6 @@ adds-item W n at v items now f on start same e =
         rw (votes-next on items n q 0, votes-next on items n q 1, rode q, t)
         (getD-set-other now at q v 0 (λ s. eqb-false at q t (sym s)) ∙ omega (arith, counter-at W n on items start now e q l))
 
--- the same items, carried alike
-pub counted-ext : (W n : ℕ) (on on′ : ℕ → ℕ → Bool) (items items′ start : List ℕ)
-    → ((j : ℕ) → j < n → (q : ℕ) → q < W → on j q ≡ on′ j q) → ((j : ℕ) → j < n → getD items j 0 ≡ getD items′ j 0)
-    → counted W n on items start ≡ counted W n on′ items′ start
-unfolding counted
-counted-ext W n on on′ items items′ start same alike =
-    tabulate-ext W _ _ (λ q l.
-    ap₂ (λ (ones zeros : ℕ). (getD start q 0 + ones + 255 * zeros) % 256)
-    (votes-ext n on on′ items items′ q 1 (λ j h. same j h q l) alike) (votes-ext n on on′ items items′ q 0 (λ j h. same j h q l) alike))
-
 -- m items more, counted apart
 pub counted-more : (W n m : ℕ) (on on′ : ℕ → ℕ → Bool) (items part start now later : List ℕ)
     → now ≡ counted W n on items start → later ≡ counted W m on′ part now

@@ -9,6 +9,9 @@ ghost use lib.ListN.{length};
 ghost use Rattle.votes.specs.Votes.{carries, majority as majorityOf};
 ghost use Rattle.votes.specs.Loops.Counters.{afterItem, Adds};
 
+// Where a counter of votes starts.
+pub const MIDDLE: u8 = 128;
+
 // 1 where two bytes are equal, else 0.
 pub fn same(a: u8, b: u8) -> u8
     ensures value { λ r. ⌜ r ≡ cond (eqb a b) 1 0 ⌝ }
