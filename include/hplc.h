@@ -63,10 +63,7 @@ enum hplc_number {
     HPLC_REFUSED_MAJORITY = 7,
     /* Parity disagrees; the count of kept parity bits that disagree. */
     HPLC_REFUSED_PARITY = 8,
-    /*
-     * Version 1 cannot say the block count and the copy count; 0. Payload cards and fields with more than one copy give this where version 1
-     * is asked for.
-     */
+    /* Version 1 cannot say the block count and the copy count; 0. So it is where version 1 of a payload with copies is asked for. */
     HPLC_REFUSED_COUNTS = 11
 };
 

@@ -191,6 +191,10 @@ moves n by =
         let l : by % n < n = mod-lt by (omega arith) in
         omega (arith, div-add-mod' by n, suc-mul (by / n) n)
 
+-- the order that changes nothing
+pub in-order : (n : ℕ) → Permutes n (λ x. x)
+in-order n = record { below = λ x h. h; apart = λ x y hx hy e. e }
+
 -- multiples of a number that has an inverse modulo n
 pub scales : (n a b rounds : ℕ) → a * b ≡ 1 + rounds * n → Permutes n (λ x. x * a % n)
 scales n a b rounds e = undone (λ x. x * a % n) (λ x. x * b % n) (λ x h. mod-lt (x * a) (omega arith)) back

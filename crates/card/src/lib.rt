@@ -180,8 +180,8 @@ pub fn is_single(blocks: u64, copies: u64) -> bool
     copies == 1
 }
 
-// More copies than one go only with a payload.
-fn counts_serve(kind: u64, blocks: u64, copies: u64) -> bool
+// Whether the counts are defined for a kind: more copies than one go only with a payload.
+fn is_defined_counts(kind: u64, blocks: u64, copies: u64) -> bool
     ensures { λ r. ⌜ r ≡ definedCounts kind blocks copies ⌝ }
 {
     if is_single(blocks, copies) {
@@ -201,7 +201,7 @@ pub fn is_defined(c: Card) -> bool
     ensures { λ r. ⌜ r ≡ defined c ⌝ }
 {
     if is_defined_mode(c.band, c.kind, c.rate, c.modulation) {
-        return counts_serve(c.kind, c.blocks, c.copies);
+        return is_defined_counts(c.kind, c.blocks, c.copies);
     }
     false
 }

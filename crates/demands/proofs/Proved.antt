@@ -32,7 +32,7 @@ use Rattle.constellation.specs.Entries.{mapRows, mapOutcome}
 use Rattle.slicing.specs.Entries.{sliceRows, sliceOutcome}
 use Rattle.diversity.proofs.BandLaws.{band-range, band-fewest-met, band-most-met, fewest-of}
 use Rattle.payload_layout.specs.Items.{sentOn}
-use Rattle.payload_layout.proofs.PlainLaws.{all-used, one-carried, carried-below}
+use Rattle.payload_layout.proofs.CarriedLaws.{all-used, one-carried, carried-below}
 use Rattle.payload_layout.proofs.ItemLaws.{sent-carries, unused-carries, unused-sent}
 use Rattle.payload_layout.specs.Layouts.{layoutBy, layoutFor, layoutOf, items}
 use Rattle.payload.specs.Entries.{layoutOfCard, sendRows, send as payloadSend, readRows as payloadReadRows, read as payloadRead}

@@ -2,8 +2,7 @@
 use mathlib.Core.Path.{_≡_, sym, ap, ap₂, _∙_}
 use mathlib.Core.Bool.{Bool, _&&_}
 use mathlib.Core.List.{List}
-use Prim.Native.Nat.{ℕ, _+_, _-_, _*_, _≤_, _<_}
-use native.Mathlib.Nat.{one-mul}
+use Prim.Native.Nat.{ℕ, _+_, _-_, _≤_, _<_}
 use native.Mathlib.Omega.{arith}
 use lib.Dec.{eqb, eqb→eq}
 use lib.ListN.{getD, length, take, drop, length-drop}
@@ -20,7 +19,7 @@ use Rattle.payload_layout.specs.declared.Layout.{Layout}
 use Rattle.payload_layout.specs.Layouts.{items}
 use Rattle.payload_layout.specs.Loops.Bounds.{Laid}
 use Rattle.payload_layout.specs.Items.{carries}
-use Rattle.payload_layout.proofs.PlainLaws.{one-full}
+use Rattle.payload_layout.proofs.CarriedLaws.{one-full, one-pad}
 use Rattle.payload_layout.proofs.ItemLaws.{one-carries}
 use Rattle.payload_combining.specs.Loops.Copies.{vote, ofOne, ofTwo}
 
@@ -48,7 +47,7 @@ module _ (L : Layout) (laid : Laid L) (one : L .copies ≡ 1) where
   full = one-full L (laid .sound) one
 
   pub pad-within : L .pad ≤ L .coded
-  pad-within = omega (arith, laid .within, ap (λ (k : ℕ). k * L .pad) one, one-mul (L .pad))
+  pad-within = one-pad L laid one
 
   carries-data : (j : ℕ) → j < L .coded → (b : ℕ) → eqb j b ≡ carries L j b
   carries-data j h b = sym (one-carries L (laid .sound) one j (omega (arith, full)) b ∙ rw (lt-ltb j (L .coded) h))

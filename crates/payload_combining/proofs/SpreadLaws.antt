@@ -3,7 +3,7 @@ use mathlib.Core.Path.{_≡_, sym, ap, ap₂, _∙_}
 use mathlib.Core.Bool.{cond, _&&_}
 use mathlib.Core.List.{List}
 use Prim.Native.Nat.{ℕ, _+_, _-_, _*_, _/_, _%_, _<_}
-use native.Mathlib.Nat.{mul-assoc, add-mul, mod-lt, div-add-mod', div-lt-iff-lt-mul}
+use native.Mathlib.Nat.{mod-lt, div-add-mod', div-lt-iff-lt-mul}
 use native.Mathlib.Omega.{arith}
 use lib.Dec.{eqb}
 use lib.ListN.{length, getD}
@@ -12,15 +12,15 @@ use Rattle.bits.specs.Permutations.{Permutes}
 use Rattle.bits.proofs.NumberLaws.{lt-cases, row-within}
 use Rattle.bits.proofs.ListLaws.{tabulate-ext}
 use Rattle.bits.proofs.SumLaws.{count-ext}
-use Rattle.bits.proofs.PermutationLaws.{permutes-ext, rows-permute, sum-permuted}
+use Rattle.bits.proofs.PermutationLaws.{in-order, permutes-ext, rows-permute, sum-permuted}
 use Rattle.votes.specs.Votes.{carries as carriesOn, votes}
 use Rattle.votes.specs.Loops.Counters.{counted}
 use Rattle.payload_layout.specs.declared.Layout.{Layout}
 use Rattle.payload_layout.specs.Layouts.{groupCarriers, groupBits}
-use Rattle.payload_layout.specs.Items.{groupOrder, padded}
-use Rattle.payload_layout.proofs.OrderLaws.{in-order, group-permutes}
-use Rattle.payload_copying.specs.Loops.Slots.{Slotted, Addresses, Copied, slotBit}
-use Rattle.payload_copying.proofs.SlotLaws.{orderOf, order-long, order-at}
+use Rattle.payload_layout.specs.Items.{groupOrder}
+use Rattle.payload_layout.proofs.OrderLaws.{group-permutes}
+use Rattle.payload_copying.specs.Loops.Slots.{Slotted, Addresses, Copied}
+use Rattle.payload_copying.proofs.SlotLaws.{orderOf, slot-at, order-long, order-at}
 use Rattle.payload_combining.specs.Loops.Groups.{slotOn, groupOn}
 
 -- ---- carriers put back in order
@@ -55,21 +55,13 @@ module _ (L : Layout) (z : Slotted L) (k g : ℕ) where
   slot-permutes =
       rows-permute (groupCarriers L) (L .bits) (groupOrder L k) (λ i e. e) (z .laid .sound .bits-pos) (group-permutes L (z .laid .sound) k) (λ i h. in-order (L .bits))
 
-  slot-at : (i : ℕ) → slotBit L k g i ≡ padded L k (g * groupBits L + slotOrder L k i)
-  unfolding slotBit
-  slot-at i =
-      let o = groupOrder L k (i / L .bits) in
-      let at : (g * groupCarriers L + o) * L .bits + i % L .bits ≡ g * groupBits L + (o * L .bits + i % L .bits) =
-      omega (arith, mul-assoc g (groupCarriers L) (L .bits), add-mul (g * groupCarriers L) o (L .bits)) in
-      ap (padded L k) at
-
   slot-votes : (items group : List ℕ) → ((i : ℕ) → i < groupBits L → getD group (slotOrder L k i) 0 ≡ getD items i 0) → (b v : ℕ)
       → votes (groupBits L) (groupOn L k g) group b v ≡ votes (groupBits L) (slotOn L k g) items b v
   unfolding votes count slotOn groupOn carriesOn
   slot-votes items group w b v =
       let h : ℕ → ℕ = λ x. cond (groupOn L k g x b && eqb (getD group x 0) v) 1 0 in
       sym (sum-permuted (groupBits L) (slotOrder L k) slot-permutes h)
-      ∙ count-ext (groupBits L) _ _ (λ i l. ap₂ (λ (a c : ℕ). eqb a b && eqb c v) (sym (slot-at i)) (w i l))
+      ∙ count-ext (groupBits L) _ _ (λ i l. ap₂ (λ (a c : ℕ). eqb a b && eqb c v) (sym (slot-at L k g i)) (w i l))
 
   pub slot-counted : (items group counters later : List ℕ) → ((i : ℕ) → i < groupBits L → getD group (slotOrder L k i) 0 ≡ getD items i 0)
       → later ≡ counted (L .coded) (groupBits L) (groupOn L k g) group counters

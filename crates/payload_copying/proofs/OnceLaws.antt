@@ -1,8 +1,7 @@
 -- The items of one copy as two runs: the coded bits in order, and the pad, which has them from 0 on. Assumes nothing.
 use mathlib.Core.Path.{_≡_, sym, ap, _∙_}
 use mathlib.Core.List.{List, _++_}
-use Prim.Native.Nat.{ℕ, _+_, _-_, _*_, _<_}
-use native.Mathlib.Nat.{one-mul}
+use Prim.Native.Nat.{ℕ, _+_, _-_, _<_}
 use native.Mathlib.Omega.{arith}
 use lib.ListN.{getD, length, take, drop}
 use lib.Seq.{length-take-le, getD-take}
@@ -13,7 +12,7 @@ use Rattle.payload_layout.specs.declared.Layout.{Layout}
 use Rattle.payload_layout.specs.Layouts.{items}
 use Rattle.payload_layout.specs.Loops.Bounds.{Laid}
 use Rattle.payload_layout.specs.Items.{sentOn}
-use Rattle.payload_layout.proofs.PlainLaws.{one-full}
+use Rattle.payload_layout.proofs.CarriedLaws.{one-full, one-pad}
 use Rattle.payload_layout.proofs.ItemLaws.{one-sent}
 
 module _ (L : Layout) (laid : Laid L) (one : L .copies ≡ 1) (coded : List ℕ) (long : length coded ≡ L .coded) where
@@ -21,7 +20,7 @@ module _ (L : Layout) (laid : Laid L) (one : L .copies ≡ 1) (coded : List ℕ)
   full = one-full L (laid .sound) one
 
   pub pad-length : length (take (L .pad) coded) ≡ L .pad
-  pad-length = length-take-le (L .pad) coded (omega (arith, laid .within, ap (λ (k : ℕ). k * L .pad) one, one-mul (L .pad)))
+  pad-length = length-take-le (L .pad) coded (omega (arith, one-pad L laid one))
 
   data-sent : (n : ℕ) → n < L .coded → getD coded n 0 ≡ sentOn L (λ b. getD coded b 0) n
   data-sent n h = sym (one-sent L (laid .sound) one n (omega (arith, full)) (λ b. getD coded b 0) ∙ rw (lt-ltb n (L .coded) h))

@@ -31,20 +31,29 @@ Sourced L k g coded src = (x : ℕ) → x < groupBits L → getD src x 0 ≡ get
 abbrev pub orderOf : ℕ → ℕ → List ℕ → List ℕ
 orderOf first end table = take (end - first) (drop first table)
 
+-- an item of a slot is a bit of its group, by the order of the carriers
+pub slot-at : (L : Layout) (k g i : ℕ) → slotBit L k g i ≡ padded L k (g * groupBits L + (groupOrder L k (i / L .bits) * L .bits + i % L .bits))
+unfolding slotBit
+slot-at L k g i =
+    let o = groupOrder L k (i / L .bits) in
+    let at : (g * groupCarriers L + o) * L .bits + i % L .bits ≡ g * groupBits L + (o * L .bits + i % L .bits) =
+    omega (arith, mul-assoc g (groupCarriers L) (L .bits), add-mul (g * groupCarriers L) o (L .bits)) in
+    ap (padded L k) at
+
 module _ (L : Layout) (s : Slotted L) where
   -- copy k's order is a part of the table
   pub address-group : (k p : ℕ) → p < groupCarriers L → addressOf (L .interleavers) (L .span) (L .step) (k * groupCarriers L + p) ≡ groupOrder L k p
   unfolding addressOf groupOrder
   address-group k p h =
-      let B = L .span in
-      let j : p / B < L .interleavers = div-lt-iff-lt-mul {k = B} (s .laid .sound .span-pos) .1 h in
-      let r : p % B < B = mod-lt p (s .laid .sound .span-pos) in
-      let e : k * groupCarriers L + p ≡ (k * L .interleavers + p / B) * B + p % B =
-      omega (arith, sym (mul-assoc k (L .interleavers) B), add-mul (k * L .interleavers) (p / B) B, div-add-mod' p B) in
-      let d : (k * groupCarriers L + p) / B ≡ k * L .interleavers + p / B = ap (λ (x : ℕ). x / B) e ∙ digits-div (k * L .interleavers + p / B) r in
-      let m : (k * groupCarriers L + p) % B ≡ p % B = ap (λ (x : ℕ). x % B) e ∙ digits-mod (k * L .interleavers + p / B) r in
-      ap₂ (λ (a b : ℕ). a % L .interleavers * B + outAddr B (L .step) a b) d m
-      ∙ ap (λ (a : ℕ). a * B + outAddr B (L .step) (k * L .interleavers + p / B) (p % B)) (digits-mod k j)
+      let n = L .span in
+      let j : p / n < L .interleavers = div-lt-iff-lt-mul {k = n} (s .laid .sound .span-pos) .1 h in
+      let r : p % n < n = mod-lt p (s .laid .sound .span-pos) in
+      let e : k * groupCarriers L + p ≡ (k * L .interleavers + p / n) * n + p % n =
+      omega (arith, sym (mul-assoc k (L .interleavers) n), add-mul (k * L .interleavers) (p / n) n, div-add-mod' p n) in
+      let d : (k * groupCarriers L + p) / n ≡ k * L .interleavers + p / n = ap (λ (x : ℕ). x / n) e ∙ digits-div (k * L .interleavers + p / n) r in
+      let m : (k * groupCarriers L + p) % n ≡ p % n = ap (λ (x : ℕ). x % n) e ∙ digits-mod (k * L .interleavers + p / n) r in
+      ap₂ (λ (a b : ℕ). a % L .interleavers * n + outAddr n (L .step) a b) d m
+      ∙ ap (λ (a : ℕ). a * n + outAddr n (L .step) (k * L .interleavers + p / n) (p % n)) (digits-mod k j)
 
   -- ---- the order
 
@@ -70,7 +79,7 @@ module _ (L : Layout) (s : Slotted L) where
     pub slot-laid : (g : ℕ) (coded src out after : List ℕ) → Sourced L k g coded src
         → after ≡ written (length (orderOf first end table) * L .bits) (taken (L .bits) (orderOf first end table) src) out
         → after ≡ written (groupBits L) (λ i. getD coded (slotBit L k g i) 0) out
-    unfolding slotBit taken
+    unfolding taken
     slot-laid g coded src out after from w =
         w ∙ ap (λ (n : ℕ). written (n * L .bits) (taken (L .bits) (orderOf first end table) src) out) order-long
         ∙ written-ext (groupBits L) _ _ out each
@@ -83,10 +92,8 @@ module _ (L : Layout) (s : Slotted L) where
             let o = groupOrder L k (i / L .bits) in
             let lo : o < groupCarriers L = group-permutes L (s .laid .sound) k .below (i / L .bits) p in
             let x : o * L .bits + i % L .bits < groupBits L = digits-lt {c = L .bits} lo r in
-            let at : g * groupBits L + (o * L .bits + i % L .bits) ≡ (g * groupCarriers L + o) * L .bits + i % L .bits =
-            omega (arith, mul-assoc g (groupCarriers L) (L .bits), add-mul (g * groupCarriers L) o (L .bits)) in
             ap (λ (y : ℕ). getD src (y * L .bits + i % L .bits) 0) (order-at (i / L .bits) p)
-            ∙ from (o * L .bits + i % L .bits) x ∙ ap (λ (y : ℕ). getD coded (padded L k y) 0) at
+            ∙ from (o * L .bits + i % L .bits) x ∙ ap (λ (y : ℕ). getD coded y 0) (sym (slot-at L k g i))
 
   -- ---- the group
 

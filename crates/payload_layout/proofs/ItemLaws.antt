@@ -16,7 +16,7 @@ use Rattle.payload_layout.specs.Layouts.{items}
 use Rattle.payload_layout.specs.Loops.Bounds.{Sound, Laid}
 use Rattle.payload_layout.specs.Items.{used, carried, carries, sentOn}
 use Rattle.payload_layout.proofs.CountLaws.{copies-least}
-use Rattle.payload_layout.proofs.PlainLaws.{all-used, one-carried, carried-below}
+use Rattle.payload_layout.proofs.CarriedLaws.{all-used, one-carried, carried-below}
 
 -- ---- what an item sends
 

@@ -3,7 +3,7 @@ use mathlib.Core.Path.{_≡_, refl, sym, ap, _∙_, subst}
 use mathlib.Core.Bool.{Bool, _&&_, _||_}
 use mathlib.Core.Logic.{inl, inr}
 use Prim.Native.Nat.{ℕ, zero, suc, _+_, _-_, _*_, _<_, _≤_}
-use native.Mathlib.Nat.{mul-assoc, mul-comm, mul-le-mul, mul-le-mul-left, mul-le-mul-right}
+use native.Mathlib.Nat.{mul-assoc, mul-comm, mul-le-mul, mul-le-mul-left, mul-le-mul-right, mul-left-comm, le-mul-of-pos-right}
 use native.Mathlib.Omega.{arith}
 use lib.Dec.{T, eqb, leb, leb→le}
 use borrow.Author.Tests.{ne-eqb}
@@ -106,7 +106,7 @@ items-few L s wide =
     mul-le-mul-left (L .symbols) (mul-le-mul-right (L .bits) wide) in
     let turn : L .symbols * (13 * groupCarriers L * L .bits) ≡ 13 * (copyCarriers L * L .bits) =
     ap (λ (k : ℕ). L .symbols * k) (mul-assoc 13 (groupCarriers L) (L .bits))
-    ∙ native.Mathlib.Nat.mul-left-comm (L .symbols) 13 (groupCarriers L * L .bits)
+    ∙ mul-left-comm (L .symbols) 13 (groupCarriers L * L .bits)
     ∙ ap (λ (k : ℕ). 13 * k) (sym (mul-assoc (L .symbols) (groupCarriers L) (L .bits))) in
     omega (arith, s .full)
 
@@ -144,7 +144,7 @@ module _ (band modulation copies coded : ℕ) (band-lt : band < bandCount) (modu
     where
       group-below : Sound L → groupCarriers L ≤ L .carriers
       group-below s =
-          omega (arith, s .there, native.Mathlib.Nat.le-mul-of-pos-right {m = L .copies} (groupCarriers L) (s .copies-pos), mul-comm (groupCarriers L) (L .copies))
+          omega (arith, s .there, le-mul-of-pos-right {m = L .copies} (groupCarriers L) (s .copies-pos), mul-comm (groupCarriers L) (L .copies))
 
   -- pads within the data are all that is left to ask
   pub layout-laid : L .copies * L .pad ≤ coded → Laid L

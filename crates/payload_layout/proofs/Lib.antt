@@ -2,7 +2,7 @@
 pub mod OrderLaws
 pub mod CountLaws
 pub mod SectionLaws
-pub mod PlainLaws
+pub mod CarriedLaws
 pub mod LayoutLaws
 pub mod ItemLaws
 mod NumberLaws

@@ -2,7 +2,7 @@
 use Prim.Native.Nat.{ℕ, zero, _+_, _*_, _/_, _<_}
 use native.Mathlib.Nat.{mul-pos}
 use Rattle.bits.specs.Permutations.{Permutes}
-use Rattle.bits.proofs.PermutationLaws.{rows-permute}
+use Rattle.bits.proofs.PermutationLaws.{in-order, rows-permute}
 use Rattle.address_interleaver.specs.Addresses.{circshift, outAddr}
 use Rattle.address_interleaver.proofs.RoundLaws.{shift-permutes}
 use Rattle.address_interleaver.proofs.AddressLaws.{addresses-permute}
@@ -10,10 +10,6 @@ use Rattle.payload_layout.specs.declared.Layout.{Layout}
 use Rattle.payload_layout.specs.Layouts.{groupCarriers, copyCarriers}
 use Rattle.payload_layout.specs.Loops.Bounds.{Sound}
 use Rattle.payload_layout.specs.Items.{groupOrder, copyOrder}
-
--- in order
-pub in-order : (n : ℕ) → Permutes n (λ x. x)
-in-order n = record { below = λ x h. h; apart = λ x y hx hy e. e }
 
 module _ (L : Layout) (s : Sound L) where
   pub group-pos : zero < groupCarriers L

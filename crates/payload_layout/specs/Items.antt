@@ -1,6 +1,6 @@
 -- Which coded bit each item of a payload carries (paper 01, Carriers, for one copy; 5.1.5.5.1 and 5.1.5.5.6 of source 000 for more). Items run
--- by symbol, place and bit in the carrier, and the copies stand on the used carriers one after another. Callers know a layout by `items`,
--- `carries`, `sentOn` and `Laid`. Everything counts from 0. Assumes nothing.
+-- by symbol, place and bit in the carrier, and the copies stand on the used carriers one after another. The entries know a layout by
+-- `items`, `carries` and `sentOn`. Everything counts from 0. Assumes nothing.
 use mathlib.Core.Bool.{Bool, cond, _&&_}
 use Prim.Native.Nat.{ℕ, _+_, _-_, _*_, _/_, _%_}
 use lib.Dec.{eqb, ltb}
@@ -12,7 +12,7 @@ use Rattle.payload_layout.specs.Layouts.{groupCarriers, usedCarriers, co
 unfoldable pub padded : Layout → ℕ → ℕ → ℕ
 padded L k x = cond (ltb x (L .coded)) x (k * L .pad + (x - L .coded))
 
--- the carrier of a group that stands at place p of its slot in copy k: each span by its own interleaver, which number on over the copies
+-- the carrier of a group that stands at place p of its slot in copy k: each span by its own interleaver, numbered on over the copies
 unfoldable pub groupOrder : Layout → ℕ → ℕ → ℕ
 groupOrder L k p = p / L .span * L .span + outAddr (L .span) (L .step) (k * L .interleavers + p / L .span) (p % L .span)
 

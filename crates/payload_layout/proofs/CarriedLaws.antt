@@ -1,13 +1,13 @@
--- One copy: the coded bits in order, and from 0 on again, on every carrier. And every used item of a layout carries a coded bit.
--- Assumes nothing.
+-- What items carry: of one copy the coded bits in order, and from 0 on again, on every carrier; of every layout a coded bit where they are
+-- used. Assumes nothing.
 use mathlib.Core.Path.{_≡_, sym, ap, ap₂, _∙_}
 use mathlib.Core.Bool.{true, cond}
-use Prim.Native.Nat.{ℕ, zero, _+_, _-_, _*_, _/_, _%_, _<_}
+use Prim.Native.Nat.{ℕ, zero, _+_, _-_, _*_, _/_, _%_, _<_, _≤_}
 use native.Mathlib.Nat.{one-mul, zero-mul, zero-div, mod-lt, mod-eq-of-lt, div-eq-of-lt, div-add-mod', div-lt-iff-lt-mul, mul-assoc, mul-left-comm, mul-pos}
 use native.Mathlib.Omega.{arith}
 use lib.Arith.{digits-lt}
 use lib.Dec.{ltb}
-use borrow.Author.Tests.{lt-ltb, le-ltb}
+use borrow.Author.Tests.{lt-ltb, le-ltb, ltb-true}
 use Rattle.bits.proofs.NumberLaws.{lt-cases}
 use Rattle.address_interleaver.specs.Addresses.{circshift, outAddr}
 use Rattle.address_interleaver.proofs.RoundLaws.{unshifted}
@@ -97,6 +97,9 @@ module _ (L : Layout) (s : Sound L) (one : L .copies ≡ 1) where
 -- ---- every layout whose pads are within the data
 
 module _ (L : Layout) (laid : Laid L) where
+  pub one-pad : L .copies ≡ 1 → L .pad ≤ L .coded
+  one-pad one = omega (arith, laid .within, ap (λ (k : ℕ). k * L .pad) one, one-mul (L .pad))
+
   -- bit x of copy k's padded data
   pub padded-below : (k x : ℕ) → k < L .copies → x < L .coded + L .pad → padded L k x < L .coded
   unfolding padded
@@ -120,7 +123,7 @@ module _ (L : Layout) (laid : Laid L) where
   pub carried-below : (n : ℕ) → n < items L → used L n ≡ true → carried L n < L .coded
   unfolding carried used
   carried-below n h t =
-      let place : placeOf L n < usedCarriers L = borrow.Author.Tests.ltb-true (placeOf L n) (usedCarriers L) t in
+      let place : placeOf L n < usedCarriers L = ltb-true (placeOf L n) (usedCarriers L) t in
       copied-below (symbolOf L n * usedCarriers L + placeOf L n) (n % L .bits)
       (omega (
         arith,

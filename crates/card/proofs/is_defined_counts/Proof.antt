@@ -1,9 +1,9 @@
--- `card::counts_serve` meets its contract. Assumes nothing.
+-- `card::is_defined_counts` meets its contract. Assumes nothing.
 use mathlib.Core.Path.{sym, _∙_}
 use borrow.Author.Tests.{eq-eqb, ne-eqb, lt-ltb, le-ltb}
 use borrow.Author.Needs.{needs}
-use Rattle.card.proofs.counts_serve.Statement.{statement}
-use Rattle.card.proofs.counts_serve.Tie as tie
+use Rattle.card.proofs.is_defined_counts.Statement.{statement}
+use Rattle.card.proofs.is_defined_counts.Tie as tie
 
 is-single-requires : tie.Need-is-single-requires
 is-single-requires c κs = search needs
@@ -31,7 +31,7 @@ returns-4 c =
     let none = le-ltb _ _ (rw (c .before .copy-code .ensures) at (c .if3 .left)) in
     simp (more, ne-eqb _ _ (kinds .if2 .left), none)
 
-pub counts-serve-spec : {M : Type 1} → statement M
-counts-serve-spec =
+pub is-defined-counts-spec : {M : Type 1} → statement M
+is-defined-counts-spec =
     tie.close
     (tie.spec is-single-requires returns returns-2 copy-code-requires returns-3 returns-4)
