@@ -18,7 +18,7 @@ use Rattle.bits.proofs.SumLaws.{sum-ext, sum-add}
 use Rattle.votes.specs.Votes.{carries, votes, majority, decided}
 use Rattle.votes.specs.Loops.Counters.{middle, counted, Adds}
 use Rattle.votes.proofs.VoteLaws.{votes-le}
-use Rattle.votes.proofs.CounterLaws.{alone, counter-from, majority-from}
+use Rattle.votes.proofs.CounterLaws.{alone, counter-at, majority-told}
 use Rattle.diversity.specs.Lanes.{laneBit, itemCount}
 use Rattle.diversity.specs.Copies.{copiesOf}
 use Rattle.diversity.specs.Loops.Cycle.{cycleBit, cycleLane}
@@ -65,6 +65,13 @@ unfolding sum
 four-each zero f h = omega arith
 four-each (suc n) f h = omega (arith, four-each n f (λ k l. h k (omega arith)), h n (omega arith))
 
+-- ---- two counters
+
+-- two counters, after p ones and q zeros and after r and s, are together one, modulo 256
+two-counters : (p q r s x y : ℕ) → x ≡ (middle + p + 255 * q) % 256 → y ≡ (middle + r + 255 * s) % 256
+    → (x + y) % 256 ≡ (2 * middle + (p + r) + 255 * (q + s)) % 256
+two-counters p q r s x y e f = omega arith
+
 -- ---- all items of symbols of C carriers under the offsets os
 
 module _ (C : ℕ) (os items : List ℕ) where
@@ -99,7 +106,7 @@ module _ (C : ℕ) (os items : List ℕ) where
 
   -- the counters of each bit tell its majority
   pub counters-decide : (start now r : List ℕ) → C ≤ 512 → length os < 32 → start ≡ replicate 512 middle
-      → Adds 512 0 all (carries (cycleLane C os)) items start now → r ≡ tabulate 256 (λ b. majority 256 (bitSum now b))
+      → Adds 512 0 all (carries (cycleLane C os)) items start now → r ≡ tabulate 256 (λ b. majority (2 * middle) (bitSum now b))
       → r ≡ tabulate 256 (decided all (carries (laneBit C os)) items)
   unfolding decided bitSum
   counters-decide start now r small few even adds e = e ∙ tabulate-ext 256 _ _ bit
@@ -112,29 +119,21 @@ module _ (C : ℕ) (os items : List ℕ) where
           alone 512 all (carries (cycleLane C os)) items start now adds
           (ap length even ∙ length-replicate 512 middle) (λ q l. omega (arith, middle-at q l))
 
-      -- the counter of a lane of bit b did not wrap
-      lane-from : (b q : ℕ) → b < 256 → q < 512 → ((v : ℕ) → laneVotes q v ≤ bitVotes b v) → getD now q 0 + laneVotes q 0 ≡ 128 + laneVotes q 1
-      lane-from b q h l within =
-          counter-from 512 all (carries (cycleLane C os)) items start now counted-now q l (middle-at q l)
-          (omega (arith, within 0, few-votes b 0 small h)) (omega (arith, within 1, few-votes b 1 small h))
+      lane-at : (q : ℕ) → q < 512 → getD now q 0 ≡ (middle + laneVotes q 1 + 255 * laneVotes q 0) % 256
+      lane-at q l = counter-at 512 all (carries (cycleLane C os)) items start now counted-now q l ∙ rw (middle-at q l)
 
-      bit : (b : ℕ) → b < 256 → majority 256 (getD now (2 * b) 0 + getD now (far b) 0) ≡ majority (bitVotes b 0) (bitVotes b 1)
+      bit : (b : ℕ) → b < 256 → majority (2 * middle) ((getD now (2 * b) 0 + getD now (far b) 0) % 256) ≡ majority (bitVotes b 0) (bitVotes b 1)
       bit b l =
-          majority-from 256 (bitVotes b 0) (bitVotes b 1) (getD now (2 * b) 0 + getD now (far b) 0)
-          (omega (
-            arith,
-            votes-lanes b 0 l,
-            votes-lanes b 1 l,
-            lane-from b (2 * b) l (omega arith) (λ v. omega (arith, votes-lanes b v l)),
-            lane-from b (far b) l (omega arith) (λ v. omega (arith, votes-lanes b v l)),
-          ))
+          majority-told (2 * middle) (bitVotes b 0) (bitVotes b 1) _ (omega (arith, few-votes b 0 small l)) (omega (arith, few-votes b 1 small l))
+          (rw (votes-lanes b 0 l, votes-lanes b 1 l)
+          (two-counters _ _ _ _ _ _ (lane-at (2 * b) (omega arith)) (lane-at (far b) (omega arith))))
 
 -- ---- pairs
 
 -- the pairs that neither lane wraps to
 pub pair-sum : (both : List ℕ) (first b i q : ℕ) → first % 128 ≡ 0 → first < 256 → b < 128
     → i ≡ (first + 0) % 256 → q ≡ (first + 0 + 128) % 256
-    → getD both (i + b) 0 % 256 + getD both (q + b) 0 / 256 ≡ pairSum both (first + b)
+    → (getD both (i + b) 0 % 256 + getD both (q + b) 0 / 256) % 256 ≡ pairSum both (first + b)
 unfolding pairSum
 pair-sum both first b i q h k l e f =
     let low : i + b ≡ first + b = omega arith in
@@ -143,18 +142,18 @@ pair-sum both first b i q h k l e f =
 
 -- two halves are all bits
 pub all-bits : (both bits first part : List ℕ) → length bits ≡ 256
-    → first ≡ written 128 (λ b. majority 256 (pairSum both (0 + b))) bits
-    → part ≡ written 128 (λ b. majority 256 (pairSum both (128 + b))) (take (length first - 128) (drop 128 first))
-    → take 128 first ++ (part ++ drop (length first - 128) (drop 128 first)) ≡ tabulate 256 (λ b. majority 256 (pairSum both b))
+    → first ≡ written 128 (λ b. majority (2 * middle) (pairSum both (0 + b))) bits
+    → part ≡ written 128 (λ b. majority (2 * middle) (pairSum both (128 + b))) (take (length first - 128) (drop 128 first))
+    → take 128 first ++ (part ++ drop (length first - 128) (drop 128 first)) ≡ tabulate 256 (λ b. majority (2 * middle) (pairSum both b))
 all-bits both bits first part long one two =
-    written-whole 256 256 _ bits _ (two-halves 128 (λ b. majority 256 (pairSum both b)) bits first part one two) refl long
+    written-whole 256 256 _ bits _ (two-halves 128 (λ b. majority (2 * middle) (pairSum both b)) bits first part one two) refl long
 
 -- pairs of counters, each a byte, are these counters
 pub pairs-decide : (counters both r : List ℕ) → ((q : ℕ) → getD counters q 0 < 256)
     → both ≡ tabulate 256 (λ p. getD counters (2 * p) 0 + 256 * getD counters (2 * p + 1) 0)
-    → r ≡ tabulate 256 (λ b. majority 256 (pairSum both b)) → r ≡ tabulate 256 (λ b. majority 256 (bitSum counters b))
+    → r ≡ tabulate 256 (λ b. majority (2 * middle) (pairSum both b)) → r ≡ tabulate 256 (λ b. majority (2 * middle) (bitSum counters b))
 unfolding pairSum bitSum
-pairs-decide counters both r bytes f g = g ∙ tabulate-ext 256 _ _ (λ b l. ap (majority 256) (bit b l))
+pairs-decide counters both r bytes f g = g ∙ tabulate-ext 256 _ _ (λ b l. ap (λ (x : ℕ). majority (2 * middle) (x % 256)) (bit b l))
   where
     pair-at : (p : ℕ) → p < 256 → getD both p 0 ≡ getD counters (2 * p) 0 + 256 * getD counters (2 * p + 1) 0
     pair-at p l = rw f (getD-tabulate 256 _ p 0 l)

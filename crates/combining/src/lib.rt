@@ -15,7 +15,7 @@ ghost use Rattle.diversity.specs.Loops.Cycle.{cycleLane};
 ghost use Rattle.combining.specs.Loops.Counters.{pairSum, bitSum};
 
 // Where the sum of two counters starts. There is one for each lane of the cycle, and a bit has two.
-const TWO_MIDDLES: u16 = 256;
+const TWO_MIDDLES: u8 = 128;
 
 // The votes of one symbol's items, from item n on, run by run.
 fn count_symbol(carriers: usize, offset: u8, n: usize, items: &[u8], counters: &mut [u8])
@@ -86,17 +86,18 @@ fn pairs(counters: &[u8]) -> [u16; 256]
     both
 }
 
-// A bit by lane I's counter at its own place and lane Q's at the place 128 on, or back.
+// A bit by lane I's counter at its own place and lane Q's at the place 128 on, or back. Their sum is a counter too, modulo 256.
 fn decide_bit(own: u16, far: u16) -> u8
-    ensures { λ r. ⌜ r ≡ majorityOf 256 (own % 256 + far / 256) ⌝ }
+    ensures { λ r. ⌜ r ≡ majorityOf (2 * middle) ((own % 256 + far / 256) % 256) ⌝ }
 {
-    votes::majority(TWO_MIDDLES, own % 256 + far / 256)
+    let sum = (own % 256 + far / 256) % 256;
+    votes::majority(TWO_MIDDLES, sum as u8)
 }
 
 // Half of the bits, from one on such that neither lane wraps within it.
 fn decide_half(first: usize, both: &[u16; 256], bits: &mut [u8])
     requires { ⌜ (first % 128 ≡ 0) × (first < 256) × (128 ≤ length (now bits)) ⌝ }
-    ensures { λ _. ⌜ now (bits .exit) ≡ written 128 (λ b. majorityOf 256 (pairSum (now (both .entry)) (first + b))) (now (bits .entry)) ⌝ }
+    ensures { λ _. ⌜ now (bits .exit) ≡ written 128 (λ b. majorityOf (2 * middle) (pairSum (now (both .entry)) (first + b))) (now (bits .entry)) ⌝ }
 {
     let i = diversity::lane_i(Place(first), 0) as usize;
     let q = diversity::lane_q(Place(first), 0) as usize;
@@ -110,7 +111,7 @@ fn decide_half(first: usize, both: &[u16; 256], bits: &mut [u8])
 // All bits, by the pairs.
 fn decide_pairs(both: &[u16; 256], bits: &mut [u8])
     requires { ⌜ length (now bits) ≡ 256 ⌝ }
-    ensures { λ _. ⌜ now (bits .exit) ≡ tabulate 256 (λ b. majorityOf 256 (pairSum (now (both .entry)) b)) ⌝ }
+    ensures { λ _. ⌜ now (bits .exit) ≡ tabulate 256 (λ b. majorityOf (2 * middle) (pairSum (now (both .entry)) b)) ⌝ }
 {
     decide_half(0, both, bits);
     decide_half(128, both, &mut bits[128..]);
@@ -119,7 +120,7 @@ fn decide_pairs(both: &[u16; 256], bits: &mut [u8])
 // What the counters, which started in the middle, decide.
 fn decide_counters(counters: &[u8]) -> [u8; 256]
     requires { ⌜ length (now counters) ≡ 512 ⌝ }
-    ensures { λ r. ⌜ r ≡ tabulate 256 (λ b. majorityOf 256 (bitSum (now (counters .entry)) b)) ⌝ }
+    ensures { λ r. ⌜ r ≡ tabulate 256 (λ b. majorityOf (2 * middle) (bitSum (now (counters .entry)) b)) ⌝ }
 {
     let both = pairs(counters);
     let mut bits = no_bits();

@@ -33,13 +33,7 @@ fn of_two(a: u8, b: u8) -> u8
 {
     let zeros = votes::same(a, 0) + votes::same(b, 0);
     let ones = votes::same(a, 1) + votes::same(b, 1);
-    if ones < zeros {
-        return 0;
-    }
-    if zeros < ones {
-        return 1;
-    }
-    2
+    votes::majority(zeros, ones)
 }
 
 // What items that are the only copies of the bits in order decide, at the start of `out`.
@@ -184,13 +178,7 @@ fn count_symbols(l: Layout, table: &[u16], items: &[u8], counters: &mut [u8])
 fn settled(counter: u8) -> u8
     ensures { λ r. ⌜ r ≡ majorityOf middle counter ⌝ }
 {
-    if counter < MIDDLE {
-        return 0;
-    }
-    if MIDDLE < counter {
-        return 1;
-    }
-    2
+    votes::majority(MIDDLE, counter)
 }
 
 // Each of `count` counters in place becomes what it decides.

@@ -134,20 +134,23 @@ same-test : (a b c d : ℕ) → (a < b → c < d) → (b ≤ a → d ≤ c) → 
 same-test a b c d below above =
     test-cases (ltb a b) (λ e. e ∙ sym (lt-ltb c d (below (ltb-true a b e)))) (λ e. e ∙ sym (le-ltb c d (above (ltb-false a b e))))
 
--- a counter x that started at m tells the majority
-pub majority-from : (m zeros ones x : ℕ) → x + zeros ≡ m + ones → majority m x ≡ majority zeros ones
+-- a counter that started at m and had few votes did not wrap
+unwrapped : (m zeros ones x : ℕ) → zeros ≤ m → m + ones < 256 → x ≡ (m + ones + 255 * zeros) % 256 → x + zeros ≡ m + ones
+unwrapped m zeros ones x k l e = omega arith
+
+-- so it tells the majority
+pub majority-told : (m zeros ones x : ℕ) → zeros ≤ m → m + ones < 256 → x ≡ (m + ones + 255 * zeros) % 256
+    → majority m x ≡ majority zeros ones
 unfolding majority
-majority-from m zeros ones x e =
+majority-told m zeros ones x k l e =
+    let told = unwrapped m zeros ones x k l e in
     ap₂ (λ (t u : Bool). cond t 0 (cond u 1 2))
-    (same-test x m ones zeros (λ l. omega arith) (λ l. omega arith)) (same-test m x zeros ones (λ l. omega arith) (λ l. omega arith))
+    (same-test x m ones zeros (λ h. omega arith) (λ h. omega arith)) (same-test m x zeros ones (λ h. omega arith) (λ h. omega arith))
 
-module _ (W n : ℕ) (on : ℕ → ℕ → Bool) (items start now : List ℕ) (e : now ≡ counted W n on items start)
-    (b : ℕ) (l : b < W) (even : getD start b 0 ≡ middle) (zeros : votes n on items b 0 < 128) (ones : votes n on items b 1 < 128) where
-  -- a counter that started in the middle and had few votes did not wrap
-  pub counter-from : getD now b 0 + votes n on items b 0 ≡ middle + votes n on items b 1
-  counter-from = omega (arith, counter-at W n on items start now e b l, even, zeros, ones)
-
-  -- so it tells its bit's majority
-  pub counter-decides : majority middle (getD now b 0) ≡ decided n on items b
-  unfolding decided
-  counter-decides = majority-from middle (votes n on items b 0) (votes n on items b 1) (getD now b 0) counter-from
+-- and a counter of a bit, from the middle, its decision
+pub counter-decides : (W n : ℕ) (on : ℕ → ℕ → Bool) (items start now : List ℕ) → now ≡ counted W n on items start
+    → (b : ℕ) → b < W → getD start b 0 ≡ middle → votes n on items b 0 < middle → votes n on items b 1 < middle
+    → majority middle (getD now b 0) ≡ decided n on items b
+unfolding decided
+counter-decides W n on items start now e b l even zeros ones =
+    majority-told middle _ _ _ (omega arith) (omega arith) (counter-at W n on items start now e b l ∙ rw even)

@@ -9,8 +9,8 @@ ghost use lib.ListN.{length};
 ghost use Rattle.votes.specs.Votes.{carries, majority as majorityOf};
 ghost use Rattle.votes.specs.Loops.Counters.{afterItem, Adds};
 
-// Where a counter of votes starts.
-pub const MIDDLE: u8 = 128;
+// Where a counter of votes starts: so low that two counters of a bit fit one byte together.
+pub const MIDDLE: u8 = 64;
 
 // 1 where two bytes are equal, else 0.
 pub fn same(a: u8, b: u8) -> u8
@@ -24,7 +24,7 @@ pub fn same(a: u8, b: u8) -> u8
 }
 
 // The strict majority of two counts: 0, 1, or 2 where there is none.
-pub fn majority(zeros: u16, ones: u16) -> u8
+pub fn majority(zeros: u8, ones: u8) -> u8
     ensures { λ r. ⌜ r ≡ majorityOf zeros ones ⌝ }
 {
     if ones < zeros {

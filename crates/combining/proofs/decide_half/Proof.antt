@@ -1,11 +1,12 @@
 -- `combining::decide_half` meets its contract. The invariant: the first b bits are decided. Assumes nothing.
 use mathlib.Core.Path.{_≡_, refl, ap, _∙_}
-use Prim.Native.Nat.{_+_, _-_, _%_, _≤_}
+use Prim.Native.Nat.{_+_, _-_, _*_, _%_, _≤_}
 use native.Mathlib.Omega.{arith}
 use lib.ListN.{length, length-set}
 use Rattle.bits.specs.Lists.{written}
 use Rattle.bits.proofs.ListLaws.{written-none, written-next, written-all}
 use Rattle.votes.specs.Votes.{majority}
+use Rattle.votes.specs.Loops.Counters.{middle}
 use Rattle.combining.specs.Loops.Counters.{pairSum}
 use Rattle.combining.proofs.CounterLaws.{pair-sum}
 use borrow.Author.Needs.{needs}
@@ -15,7 +16,7 @@ use Rattle.combining.proofs.decide_half.Tie as tie
 abbrev Inv-loop : tie.InvT-loop
 Inv-loop first both bits₀ i q b₀ bits b =
     (b ≤ 128) × (i ≡ (first + 0) % 256) × (q ≡ (first + 0 + 128) % 256)
-    × (bits ≡ written b (λ b. majority 256 (pairSum both (first + b))) bits₀) × (length bits ≡ length bits₀)
+    × (bits ≡ written b (λ b. majority (2 * middle) (pairSum both (first + b))) bits₀) × (length bits ≡ length bits₀)
 
 abbrev μ-loop : tie.MeasureT-loop
 μ-loop first both bits₀ i q b₀ bits b = 128 - b
@@ -76,7 +77,7 @@ loop-again c =
       search needs,
       search needs,
       search needs,
-      written-next _ _ _ _ _ (at .inv .3) (omega arith) (c .decide-bit .ensures ∙ ap (majority 256) sum),
+      written-next _ _ _ _ _ (at .inv .3) (omega arith) (c .decide-bit .ensures ∙ ap (majority (2 * middle)) sum),
       simp length-set (at .inv .4),
     )
 

@@ -10,7 +10,7 @@ use Rattle.votes.specs.Votes.{votes}
 
 -- where a counter starts
 abbrev pub middle : ℕ
-middle = 128
+middle = 64
 
 -- a counter after one item, modulo 256: up for a one, down for a zero
 abbrev pub afterItem : ℕ → ℕ → ℕ
