@@ -13,7 +13,7 @@ ghost use Rattle.votes.specs.Votes.{majority as majorityOf, decided};
 ghost use Rattle.votes.specs.Loops.Counters.{middle, counted, Adds};
 ghost use Rattle.payload_layout.specs.Layouts.{items as itemsOf, symbolItems, groupBits};
 ghost use Rattle.payload_layout.specs.Loops.Bounds.{CarrierBits, Laid};
-ghost use Rattle.payload_layout.specs.Items.{carries};
+ghost use Rattle.payload_layout.specs.Items.{padded, carries};
 ghost use Rattle.payload_copying.specs.Loops.Slots.{Slotted, Addresses, slotNo, Standing};
 ghost use Rattle.payload_combining.specs.Loops.Copies.{ofOne, ofTwo};
 ghost use Rattle.payload_combining.specs.Loops.Groups.{slotOn, groupOn, middles};
@@ -74,6 +74,9 @@ fn decide_once(l: Layout, items: &[u8], out: &mut [u8])
 
 // ---- more copies
 
+// The least bits of a group that are counted as a run: from here on a run is counted several at a time.
+const SHORT: usize = 8;
+
 // The carriers of `items`, put back where the given order takes them from.
 fn spread(bits: usize, order: &[u16], items: &[u8], group: &mut [u8])
     requires { ⌜ (CarrierBits bits) × (length (now order) ≤ 410) × (length (now order) * bits ≤ length (now items)) × (length (now order) * bits ≤ length (now group)) ⌝ }
@@ -107,8 +110,8 @@ fn count_group(l: Layout, k: usize, g: usize, group: &[u8], counters: &mut [u8])
     votes::count_run(rest, k * l.pad, group_bits - rest, group, counters);
 }
 
-// The votes of a slot in which group g of copy k stands: its carriers are put back in order.
-fn count_slot(
+// The votes of a slot, whose carriers are put back in order first.
+fn count_wide(
     l: Layout,
     k: usize,
     g: usize,
@@ -126,6 +129,58 @@ fn count_slot(
     let end = first + size;
     spread(l.bits, &table[first..end], items, group);
     count_group(l, k, g, group, counters);
+}
+
+// The coded bit that bit x of the padded data of copy k is.
+fn padded_bit(l: Layout, k: usize, x: usize) -> usize
+    requires { ⌜ (Slotted l) × (k < l .copies) × (x < l .coded + l .pad) ⌝ }
+    ensures value { λ r. ⌜ r ≡ padded l k x ⌝ }
+    ensures within { λ r. ⌜ r < l .coded ⌝ }
+{
+    if x < l.coded {
+        return x;
+    }
+    k * l.pad + (x - l.coded)
+}
+
+// The votes of a slot whose carriers have one bit each, carrier by carrier.
+fn count_narrow(l: Layout, k: usize, g: usize, table: &[u16], items: &[u8], counters: &mut [u8])
+    requires { ⌜ (Slotted l) × (l .bits ≡ 1) × (k < l .copies) × (g < l .symbols) × (Addresses l (now table)) ⌝ }
+    requires { ⌜ (length (now items) ≡ groupBits l) × (length (now counters) ≡ l .coded) ⌝ }
+    ensures { λ _. ⌜ now (counters .exit) ≡ counted (l .coded) (groupBits l) (slotOn l k g) (now (items .entry)) (now (counters .entry)) ⌝ }
+{
+    let size = l.interleavers * l.span;
+    let first = k * size;
+    let from = g * size;
+    let mut p: usize = 0;
+    while p < size {
+        let at = padded_bit(l, k, from + payload_copying::wide(table[first + p]));
+        counters[at] = votes::voted(counters[at], items[p]);
+        p += 1;
+    }
+}
+
+// The votes of a slot in which group g of copy k stands. A short run is counted item by item too, so its carriers need not be put back.
+fn count_slot(
+    l: Layout,
+    k: usize,
+    g: usize,
+    table: &[u16],
+    items: &[u8],
+    group: &mut [u8],
+    counters: &mut [u8],
+)
+    requires { ⌜ (Slotted l) × (k < l .copies) × (g < l .symbols) × (Addresses l (now table)) × (length (now items) ≡ groupBits l) ⌝ }
+    requires { ⌜ (length (now group) ≡ 816) × (length (now counters) ≡ l .coded) ⌝ }
+    ensures { λ _. ⌜ now (counters .exit) ≡ counted (l .coded) (groupBits l) (slotOn l k g) (now (items .entry)) (now (counters .entry)) ⌝ }
+{
+    if l.bits == 1 {
+        if l.interleavers * l.span < SHORT {
+            count_narrow(l, k, g, table, items, counters);
+            return;
+        }
+    }
+    count_wide(l, k, g, table, items, group, counters);
 }
 
 // The votes of symbol y, whose first slot is given; the answer is the slot after its last. Items on unused carriers have no vote.

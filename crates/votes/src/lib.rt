@@ -37,7 +37,7 @@ pub fn majority(zeros: u8, ones: u8) -> u8
 }
 
 // A counter after one item: up for a one, down for a zero, modulo 256 on purpose: a counter has few votes in all, in any order.
-fn voted(counter: u8, item: u8) -> u8
+pub fn voted(counter: u8, item: u8) -> u8
     ensures { λ r. ⌜ r ≡ afterItem counter item ⌝ }
 {
     let up = std::num::wrapping_add_u8(counter, same(item, 1));
