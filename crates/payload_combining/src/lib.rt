@@ -110,7 +110,7 @@ fn count_group(l: Layout, k: usize, g: usize, group: &[u8], counters: &mut [u8])
     votes::count_run(rest, k * l.pad, group_bits - rest, group, counters);
 }
 
-// The votes of a slot, whose carriers are put back in order first.
+// The votes of a slot in which group g of copy k stands: its carriers are put back in order.
 fn count_wide(
     l: Layout,
     k: usize,
@@ -143,7 +143,7 @@ fn padded_bit(l: Layout, k: usize, x: usize) -> usize
     k * l.pad + (x - l.coded)
 }
 
-// The votes of a slot whose carriers have one bit each, carrier by carrier.
+// The votes of such a slot carrier by carrier, where each has one bit.
 fn count_narrow(l: Layout, k: usize, g: usize, table: &[u16], items: &[u8], counters: &mut [u8])
     requires { ⌜ (Slotted l) × (l .bits ≡ 1) × (k < l .copies) × (g < l .symbols) × (Addresses l (now table)) ⌝ }
     requires { ⌜ (length (now items) ≡ groupBits l) × (length (now counters) ≡ l .coded) ⌝ }
@@ -160,27 +160,26 @@ fn count_narrow(l: Layout, k: usize, g: usize, table: &[u16], items: &[u8], coun
     }
 }
 
-// The votes of a slot in which group g of copy k stands. A short run is counted item by item too, so its carriers need not be put back.
+// The votes of slot s. A short run would be counted item by item too, so its carriers need not be put back.
 fn count_slot(
     l: Layout,
-    k: usize,
-    g: usize,
+    s: Slot,
     table: &[u16],
     items: &[u8],
     group: &mut [u8],
     counters: &mut [u8],
 )
-    requires { ⌜ (Slotted l) × (k < l .copies) × (g < l .symbols) × (Addresses l (now table)) × (length (now items) ≡ groupBits l) ⌝ }
-    requires { ⌜ (length (now group) ≡ 816) × (length (now counters) ≡ l .coded) ⌝ }
-    ensures { λ _. ⌜ now (counters .exit) ≡ counted (l .coded) (groupBits l) (slotOn l k g) (now (items .entry)) (now (counters .entry)) ⌝ }
+    requires { ⌜ (Slotted l) × (s .copy < l .copies) × (s .group < l .symbols) × (Addresses l (now table)) ⌝ }
+    requires { ⌜ (length (now items) ≡ groupBits l) × (length (now group) ≡ 816) × (length (now counters) ≡ l .coded) ⌝ }
+    ensures { λ _. ⌜ now (counters .exit) ≡ counted (l .coded) (groupBits l) (slotOn l (s .copy) (s .group)) (now (items .entry)) (now (counters .entry)) ⌝ }
 {
     if l.bits == 1 {
         if l.interleavers * l.span < SHORT {
-            count_narrow(l, k, g, table, items, counters);
+            count_narrow(l, s.copy, s.group, table, items, counters);
             return;
         }
     }
-    count_wide(l, k, g, table, items, group, counters);
+    count_wide(l, s.copy, s.group, table, items, group, counters);
 }
 
 // The votes of symbol y, whose first slot is given; the answer is the slot after its last. Items on unused carriers have no vote.
@@ -206,7 +205,7 @@ fn count_symbol(
     let mut n = y * (l.carriers * l.bits);
     while j < copies {
         let end = n + group_bits;
-        count_slot(l, s.copy, s.group, table, &items[n..end], group, counters);
+        count_slot(l, s, table, &items[n..end], group, counters);
         s = payload_copying::next_slot(l, s);
         n = end;
         j += 1;

@@ -103,14 +103,8 @@ count-slot-requires c κs =
     let L = start .args .l in
     let s = start .pre .0 .0 in
     let j : at .j < L .copies = in-copies turn in (
-      (
-        s,
-        standing turn .0,
-        standing turn .1,
-        start .pre .0 .4,
-        simp (length-take, length-drop) (omega (arith, fits turn, at .inv .7, start .pre .1 .0 .0)),
-      ),
-      (at .inv .4, at .inv .5),
+      (s, standing turn .0, standing turn .1, start .pre .0 .4),
+      (simp (length-take, length-drop) (omega (arith, fits turn, at .inv .7, start .pre .1 .0 .0)), at .inv .4, at .inv .5),
     )
 
 next-slot-requires : tie.Need-next-slot-requires Inv-loop μ-loop
