@@ -127,21 +127,25 @@ pub last-made : (from tail pad rest end : ℕ) (coded old had part : List ℕ) �
 last-made from tail pad rest end coded old had part hf hr he hl ho room d p = (
   ap length whole ∙ length-written (rest + pad) f old (omega arith) ∙ ho,
   (
-    (λ x b. ap (λ (l : List ℕ). getD l x 0) whole ∙ getD-written (rest + pad) f old x 0 (omega arith) ∙ ap (λ (t : Bool). cond t (getD coded (from + x) 0) (getD coded (tail + (x - rest)) 0)) (lt-ltb x rest (omega arith))),
+    (λ x b. at x (omega arith) ∙ low x (omega arith)),
     (λ y b. let e : length coded - from + y - rest ≡ y = omega arith in
-        ap (λ (l : List ℕ). getD l (length coded - from + y) 0) whole ∙ getD-written (rest + pad) f old (length coded - from + y) 0 (omega arith)
-        ∙ ap (λ (t : Bool). cond t (getD coded (from + (length coded - from + y)) 0) (getD coded (tail + (length coded - from + y - rest)) 0)) (le-ltb (length coded - from + y) rest (omega arith))
-        ∙ ap (λ (z : ℕ). getD coded (tail + z) 0) e),
+        at (length coded - from + y) (omega arith) ∙ high (length coded - from + y) (omega arith) ∙ ap (λ (z : ℕ). getD coded (tail + z) 0) e),
   ),
 )
   where
     f : ℕ → ℕ
     f x = cond (ltb x rest) (getD coded (from + x) 0) (getD coded (tail + (x - rest)) 0)
 
+    low : (x : ℕ) → x < rest → f x ≡ getD coded (from + x) 0
+    low x h = ap (λ (t : Bool). cond t (getD coded (from + x) 0) (getD coded (tail + (x - rest)) 0)) (lt-ltb x rest h)
+
+    high : (x : ℕ) → rest ≤ x → f x ≡ getD coded (tail + (x - rest)) 0
+    high x h = ap (λ (t : Bool). cond t (getD coded (from + x) 0) (getD coded (tail + (x - rest)) 0)) (le-ltb x rest h)
+
     front : had ≡ written rest f old
     front =
         d ∙ written-slice 0 coded old from (length coded) from rest refl (omega arith) (omega arith)
-        ∙ written-ext rest _ f old (λ x h. ap (λ (t : Bool). cond t (getD coded (from + x) 0) (getD coded (tail + (x - rest)) 0)) (sym (lt-ltb x rest h)))
+        ∙ written-ext rest _ f old (λ x h. sym (low x h))
 
     long : length had ≡ 816
     long = ap length front ∙ length-written rest f old (omega arith) ∙ ho
@@ -149,11 +153,14 @@ last-made from tail pad rest end coded old had part hf hr he hl ho room d p = (
     back : (y : ℕ) → y < pad → getD coded (tail + y) 0 ≡ f (rest + y)
     back y h =
         let e : y ≡ rest + y - rest = omega arith in
-        ap (λ (z : ℕ). getD coded (tail + z) 0) e
-        ∙ ap (λ (t : Bool). cond t (getD coded (from + (rest + y)) 0) (getD coded (tail + (rest + y - rest)) 0)) (sym (le-ltb (rest + y) rest (omega arith)))
+        ap (λ (z : ℕ). getD coded (tail + z) 0) e ∙ sym (high (rest + y) (omega arith))
 
     whole : take rest had ++ (part ++ drop (816 - rest) (drop rest had)) ≡ written (rest + pad) f old
     whole =
         ap (λ (n : ℕ). take rest had ++ (part ++ drop (n - rest) (drop rest had))) (sym long)
         ∙ written-part rest pad f (λ y. getD coded (tail + y) 0) old had part front back
-        (p ∙ written-slice 0 coded (take (816 - rest) (drop rest had)) tail end tail pad refl he hl ∙ ap (λ (n : ℕ). written pad (λ y. getD coded (tail + y) 0) (take (n - rest) (drop rest had))) (sym long))
+        (p ∙ written-slice 0 coded (take (816 - rest) (drop rest had)) tail end tail pad refl he hl
+        ∙ ap (λ (n : ℕ). written pad (λ y. getD coded (tail + y) 0) (take (n - rest) (drop rest had))) (sym long))
+
+    at : (x : ℕ) → x < rest + pad → getD (take rest had ++ (part ++ drop (816 - rest) (drop rest had))) x 0 ≡ f x
+    at x h = ap (λ (l : List ℕ). getD l x 0) whole ∙ getD-written (rest + pad) f old x 0 h

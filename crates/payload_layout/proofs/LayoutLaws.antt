@@ -138,7 +138,12 @@ module _ (band modulation copies coded : ℕ) (band-lt : band < bandCount) (modu
         );
         copies-in = copies-le copies is;
         step-in = step-small band copies band-lt is;
-        group-in = λ more. omega (arith, mul-le-mul {n₁ = groupCarriers L} {m₁ = L .bits} {n₂ = groupCarriers L} {m₂ = 4} (omega arith) b, mul-comm g 4, copied-room band copies band-lt is more .0);
+        group-in = λ more. omega (
+          arith,
+          mul-le-mul {n₁ = groupCarriers L} {m₁ = L .bits} {n₂ = groupCarriers L} {m₂ = 4} (omega arith) b,
+          mul-comm g 4,
+          copied-room band copies band-lt is more .0,
+        );
         used-in = λ more. copied-room band copies band-lt is more .1;
       }
     where

@@ -153,6 +153,7 @@ copied-made carriers bits copies coded code group last run step c more g l r t =
     ap₂ (λ (p k : ℕ). (coded + p) / G k) pad c in
     let run′ : run ≡ shiftRun copies (lastSymbolBits (O (copyCode copies)) coded) (G (copyCode copies)) =
     r ∙ ap (λ (k : ℕ). shiftRun copies k (G code)) l ∙ ap (λ (k : ℕ). shiftRun copies (lastSymbolBits (O k) coded) (G k)) c in
-    let step′ : step ≡ cond (eqb copies 1) 0 (roundedDown (carriers / all (copyCode copies) / (2 * all (copyCode copies)))) =
-    t ∙ ap (λ (k : ℕ). roundedDown (carriers / all k / (2 * all k))) c ∙ sym (ap (λ (b : Bool). cond b 0 (roundedDown (carriers / all (copyCode copies) / (2 * all (copyCode copies))))) (ne-eqb copies 1 more)) in
+    let rounded : ℕ → ℕ = λ code. roundedDown (carriers / all code / (2 * all code)) in
+    let step′ : step ≡ cond (eqb copies 1) 0 (rounded (copyCode copies)) =
+    t ∙ ap rounded c ∙ sym (ap (λ (b : Bool). cond b 0 (rounded (copyCode copies))) (ne-eqb copies 1 more)) in
     same-layout carriers bits coded copies symbols pad run′ (ap (λ (k : ℕ). getD interNumPerGroup k 0) c) (ap (λ (k : ℕ). carriers / all k) c) step′

@@ -8,6 +8,7 @@ use borrow.Author.Needs.{needs}
 use Rattle.bits.proofs.NumberLaws.{row-next, row-within}
 use Rattle.votes.specs.Loops.Counters.{counted}
 use Rattle.votes.proofs.CounterLaws.{counted-long}
+use Rattle.payload_layout.specs.declared.Layout.{Layout}
 use Rattle.payload_layout.specs.Layouts.{symbolItems, items, groupBits}
 use Rattle.payload_layout.specs.Items.{carries}
 use Rattle.payload_copying.specs.Loops.Slots.{slotNo, Standing}
@@ -26,21 +27,28 @@ Inv-loop l y table items group₀ counters₀ G copies s₀ j₀ n₀ group coun
 abbrev μ-loop : tie.MeasureT-loop
 μ-loop l y table items group₀ counters₀ G copies s₀ j₀ n₀ group counters s j n = l .copies - j
 
+-- the call that a turn belongs to, and its layout
+abbrev call : tie.In-loop Inv-loop μ-loop → tie.Start Inv-loop μ-loop
+call c = c .before .before .before .before .before .before .before .before .before
+
+abbrev layout : tie.In-loop Inv-loop μ-loop → Layout
+layout c = call c .args .l
+
 -- a slot is within the items
-in-copies : (c : tie.In-loop Inv-loop μ-loop) → c .before .loop .j < c .before .before .before .before .before .before .before .before .before .args .l .copies
+in-copies : (c : tie.In-loop Inv-loop μ-loop) → c .before .loop .j < layout c .copies
 in-copies c = omega (arith, c .loop-test .taken, c .before .loop .inv .8)
 
 -- the slot at which the walk stands
 standing : (c : tie.In-loop Inv-loop μ-loop)
-    → (c .before .loop .s .copy < c .before .before .before .before .before .before .before .before .before .args .l .copies) × (c .before .loop .s .group < c .before .before .before .before .before .before .before .before .before .args .l .symbols)
+    → (c .before .loop .s .copy < layout c .copies) × (c .before .loop .s .group < layout c .symbols)
 standing c =
-    let start = c .before .before .before .before .before .before .before .before .before in
+    let start = call c in
     let at = c .before .loop in
     slot-in (start .args .l) (start .pre .0 .0) (start .args .y) (at .j) (at .s) (start .pre .0 .1) (in-copies c) (at .inv .2) (at .inv .3)
 
-fits : (c : tie.In-loop Inv-loop μ-loop) → c .before .loop .n + groupBits (c .before .before .before .before .before .before .before .before .before .args .l) ≤ items (c .before .before .before .before .before .before .before .before .before .args .l)
+fits : (c : tie.In-loop Inv-loop μ-loop) → c .before .loop .n + groupBits (layout c) ≤ items (layout c)
 fits c =
-    let start = c .before .before .before .before .before .before .before .before .before in
+    let start = call c in
     let L = start .args .l in
     let s = start .pre .0 .0 in
     omega (
@@ -84,7 +92,7 @@ loop-holds c =
     )
 
 add-end : tie.Need-add-end Inv-loop μ-loop
-add-end c = omega (arith, fits c, c .before .before .before .before .before .before .before .before .before .pre .0 .0 .laid .small .items-in, c .before .loop .inv .7)
+add-end c = omega (arith, fits c, call c .pre .0 .0 .laid .small .items-in, c .before .loop .inv .7)
 
 sub-count-slot : tie.Need-sub-count-slot Inv-loop μ-loop
 sub-count-slot c = omega (arith, fits c, c .before .loop .inv .7)
@@ -93,13 +101,13 @@ part-count-slot-start : tie.Need-part-count-slot-start Inv-loop μ-loop
 part-count-slot-start c = omega (arith, fits c, c .before .loop .inv .7)
 
 part-count-slot-end : tie.Need-part-count-slot-end Inv-loop μ-loop
-part-count-slot-end c = omega (arith, fits c, c .before .loop .inv .7, c .before .before .before .before .before .before .before .before .before .pre .1 .0 .0)
+part-count-slot-end c = omega (arith, fits c, c .before .loop .inv .7, call c .pre .1 .0 .0)
 
 count-slot-requires : tie.Need-count-slot-requires Inv-loop μ-loop
 count-slot-requires c κs =
     let turn = c .before .before .before in
     let at = turn .before .loop in
-    let start = c .before .before .before .before .before .before .before .before .before .before .before .before in
+    let start = call turn in
     let L = start .args .l in
     let s = start .pre .0 .0 in
     let j : at .j < L .copies = in-copies turn in (
@@ -111,12 +119,12 @@ next-slot-requires : tie.Need-next-slot-requires Inv-loop μ-loop
 next-slot-requires c κs =
     let turn = c .before .before .before .before .before .before .before .before in
     let at = turn .before .loop in
-    let start = c .before .before .before .before .before .before .before .before .before .before .before .before .before .before .before .before .before in
+    let start = call turn in
     let s = start .pre .0 .0 in
     (s, at .inv .2, standing turn .0)
 
 add-j : tie.Need-add-j Inv-loop μ-loop
-add-j c = omega (arith, in-copies (c .before .before .before .before .before .before .before .before .before), c .before .before .before .before .before .before .before .before .before .before .before .before .before .before .before .before .before .before .pre .0 .0 .laid .small .copies-in)
+add-j c = let turn = c .before .before .before .before .before .before .before .before .before in omega (arith, in-copies turn, call turn .pre .0 .0 .laid .small .copies-in)
 
 loop-less : tie.Need-loop-less Inv-loop μ-loop
 loop-less c = omega (arith, in-copies (c .before .before .before .before .before .before .before .before .before))
@@ -126,7 +134,7 @@ loop-again c =
     let turn = c .before .before .before .before .before .before .before .before .before in
     let voted = c .before .before .before .before .before .count-slot in
     let at = turn .before .loop in
-    let start = c .before .before .before .before .before .before .before .before .before .before .before .before .before .before .before .before .before .before in
+    let start = call turn in
     let L = start .args .l in
     let s = start .pre .0 .0 in
     let j : at .j < L .copies = in-copies turn in

@@ -66,10 +66,15 @@ returns c =
     let start = c .before .before .before .before .before .before .before .before .before .before .before .before .before .before .before in
     let L = start .args .l in
     let s = start .pre .0 .0 in
+    let k = start .args .k in
+    let g = start .args .g in
+    let items = start .args .items .now in
     let spread = c .before .before .before .before .before .before .before .spread in
-    slot-counted L s (start .args .k) (start .args .g) (start .args .items .now) (spread .last .1 .1 .1 .0) (start .args .counters .now) _
-    (slot-spread L s (start .args .k) (start .args .g) (start .pre .0 .1) (start .args .table .now) (start .pre .0 .3) _ _ refl refl (start .args .items .now) (spread .last .1 .1 .1 .0) (spread .ensures))
-    (alone (L .coded) _ _ _ _ _ (c .before .before .count-group .ensures) (start .pre .1 .1) (λ q l. omega (arith, c .before .before .before .before .before .before .before .before .before .before .before .slice-known2 .given q)))
+    let group = spread .last .1 .1 .1 .0 in
+    let bytes = c .before .before .before .before .before .before .before .before .before .before .before .slice-known2 .given in
+    slot-counted L s k g items group (start .args .counters .now) _
+    (slot-spread L s k g (start .pre .0 .1) (start .args .table .now) (start .pre .0 .3) _ _ refl refl items group (spread .ensures))
+    (alone (L .coded) _ _ _ _ _ (c .before .before .count-group .ensures) (start .pre .1 .1) (λ q l. omega (arith, bytes q)))
 
 pub count-wide-spec : {M : Type 1} → statement M
 count-wide-spec =

@@ -32,8 +32,12 @@ slice-aggregate-count-symbols-2 c =
 count-symbols-requires : tie.Need-count-symbols-requires
 count-symbols-requires c κs =
     let start = c .before .before .before .before .before .before .before .before .before in
-    let n = start .args .l .coded in
-    (start .pre .0, addresses-of _ (start .pre .0) _ (c .before .before .before .before .before .before .table-of .ensures), start .pre .1, ap (take n) (c .before .before .before .before .fill .ensures) ∙ take-written n (λ _. middle) (start .args .out .now))
+    let n = start .args .l .coded in (
+      start .pre .0,
+      addresses-of _ (start .pre .0) _ (c .before .before .before .before .before .before .table-of .ensures),
+      start .pre .1,
+      ap (take n) (c .before .before .before .before .fill .ensures) ∙ take-written n (λ _. middle) (start .args .out .now),
+    )
 
 settle-requires : tie.Need-settle-requires
 settle-requires c κs = search needs
@@ -44,7 +48,9 @@ same-length c = search needs
 returns : tie.Need-returns
 returns c =
     let start = c .before .before .before .before .before .before .before .before .before .before .before .before .before .before .before .before in
-    settled-all (start .args .l) (start .pre .0) (start .args .items .now) (start .args .out .now) _ _ _ _ (c .before .before .before .before .before .before .before .before .before .before .before .fill .ensures) (c .before .before .before .before .before .before .count-symbols .ensures) refl
+    let filled = c .before .before .before .before .before .before .before .before .before .before .before .fill in
+    let counted = c .before .before .before .before .before .before .count-symbols in
+    settled-all (start .args .l) (start .pre .0) (start .args .items .now) (start .args .out .now) _ _ _ _ (filled .ensures) (counted .ensures) refl
     (c .before .before .settle .ensures)
 
 pub decide-copies-spec : {M : Type 1} → statement M

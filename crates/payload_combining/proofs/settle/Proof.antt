@@ -39,7 +39,11 @@ loop-less c = search needs
 loop-again : tie.Need-loop-again Inv-loop μ-loop
 loop-again c =
     let at = c .before .before .before .loop in
-    (search needs, written-next _ _ _ _ _ (at .inv .1) (omega arith) (c .settled .ensures ∙ ap (majority middle) (ap (λ (l : List ℕ). getD l (at .i) 0) (at .inv .1) ∙ getD-kept (at .i) _ _ (at .i) 0 (omega arith))), simp length-set (at .inv .2))
+    let kept = ap (λ (l : List ℕ). getD l (at .i) 0) (at .inv .1) ∙ getD-kept (at .i) _ _ (at .i) 0 (omega arith) in (
+      search needs,
+      written-next _ _ _ _ _ (at .inv .1) (omega arith) (c .settled .ensures ∙ ap (majority middle) kept),
+      simp length-set (at .inv .2),
+    )
 
 same-length : tie.Need-same-length Inv-loop μ-loop
 same-length c = search needs

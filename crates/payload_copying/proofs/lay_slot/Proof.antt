@@ -88,12 +88,19 @@ returns : tie.Need-returns
 returns c =
     let start = c .before .before .before .before .before .before .before .before .before .before .before .before in
     let L = start .args .l in
-    slot-laid L (start .pre .0) (start .args .k) (start .pre .1) (start .args .table .now) (start .pre .3) _ _ refl refl (start .args .g) (start .args .coded .now) _ _ _
-    (source-data L (start .pre .0) (start .args .k) (start .args .g) _ (start .args .coded .now) refl (c .before .before .before .before .before .before .if1 .taken) (start .pre .4))
+    let s = start .pre .0 in
+    let k = start .args .k in
+    let g = start .args .g in
+    let coded = start .args .coded .now in
+    slot-laid L s k (start .pre .1) (start .args .table .now) (start .pre .3) _ _ refl refl g coded _ _ _
+    (source-data L s k g _ coded refl (c .before .before .before .before .before .before .if1 .taken) (start .pre .4))
     (c .before .before .gather .ensures)
 
 mul-last-group : tie.Need-mul-last-group
-mul-last-group c = let start = c .before .before .before .before .before .before in omega (arith, pad-within _ (start .pre .0) (start .args .k) (start .pre .1), start .pre .0 .laid .small .coded-in)
+mul-last-group c =
+    let start = c .before .before .before .before .before .before in
+    let s = start .pre .0 in
+    omega (arith, pad-within _ s (start .args .k) (start .pre .1), s .laid .small .coded-in)
 
 last-group-requires : tie.Need-last-group-requires
 last-group-requires c κs =
@@ -135,9 +142,14 @@ returns-2 : tie.Need-returns-2
 returns-2 c =
     let start = c .before .before .before .before .before .before .before .before .before .before .before .before .before in
     let L = start .args .l in
+    let s = start .pre .0 in
+    let k = start .args .k in
+    let g = start .args .g in
+    let coded = start .args .coded .now in
     let last = c .before .before .before .before .before .before in
-    slot-laid L (start .pre .0) (start .args .k) (start .pre .1) (start .args .table .now) (start .pre .3) _ _ refl refl (start .args .g) (start .args .coded .now) (last .last-group .result) _ _
-    (source-last L (start .pre .0) (start .args .k) (start .args .g) (start .args .g * groupBits L) (start .args .k * L .pad) (start .args .coded .now) (last .last-group .result) (start .pre .2) refl refl
+    let group = last .last-group .result in
+    slot-laid L s k (start .pre .1) (start .args .table .now) (start .pre .3) _ _ refl refl g coded group _ _
+    (source-last L s k g (g * groupBits L) (k * L .pad) coded group (start .pre .2) refl refl
     (omega (arith, last .before .if1 .left, start .pre .4)) (start .pre .4) (last .last-group .ensures .1))
     (c .before .before .gather2 .ensures)
 

@@ -9,6 +9,7 @@ use Rattle.bits.specs.Lists.{written}
 use Rattle.bits.proofs.NumberLaws.{row-next}
 use Rattle.bits.proofs.ListLaws.{written-none, written-part, written-all}
 use Rattle.payload_layout.specs.Items.{sentOn}
+use Rattle.payload_layout.specs.declared.Layout.{Layout}
 use Rattle.payload_layout.specs.Layouts.{groupBits, symbolItems}
 use Rattle.payload_copying.specs.Loops.Slots.{slotNo, Standing}
 use Rattle.payload_copying.proofs.SlottedLaws.{group-few, carriers-few, symbol-few}
@@ -25,21 +26,28 @@ Inv-loop l y table coded out₀ G row copies s₀ j₀ n₀ out s j n =
 abbrev μ-loop : tie.MeasureT-loop
 μ-loop l y table coded out₀ G row copies s₀ j₀ n₀ out s j n = l .copies - j
 
+-- the call that a turn belongs to, and its layout
+abbrev call : tie.In-loop Inv-loop μ-loop → tie.Start Inv-loop μ-loop
+call c = c .before .before .before .before .before .before .before .before
+
+abbrev layout : tie.In-loop Inv-loop μ-loop → Layout
+layout c = call c .args .l
+
 -- a slot is within the symbol
-in-copies : (c : tie.In-loop Inv-loop μ-loop) → c .before .loop .j < c .before .before .before .before .before .before .before .before .args .l .copies
+in-copies : (c : tie.In-loop Inv-loop μ-loop) → c .before .loop .j < layout c .copies
 in-copies c = omega (arith, c .loop-test .taken, c .before .loop .inv .8)
 
 -- the slot at which the walk stands
 standing : (c : tie.In-loop Inv-loop μ-loop)
-    → (c .before .loop .s .copy < c .before .before .before .before .before .before .before .before .args .l .copies) × (c .before .loop .s .group < c .before .before .before .before .before .before .before .before .args .l .symbols)
+    → (c .before .loop .s .copy < layout c .copies) × (c .before .loop .s .group < layout c .symbols)
 standing c =
-    let start = c .before .before .before .before .before .before .before .before in
+    let start = call c in
     let at = c .before .loop in
     slot-in (start .args .l) (start .pre .0 .0) (start .args .y) (at .j) (at .s) (start .pre .0 .1) (in-copies c) (at .inv .2) (at .inv .3)
 
-fits : (c : tie.In-loop Inv-loop μ-loop) → c .before .loop .n + groupBits (c .before .before .before .before .before .before .before .before .args .l) ≤ length (c .before .loop .out)
+fits : (c : tie.In-loop Inv-loop μ-loop) → c .before .loop .n + groupBits (layout c) ≤ length (c .before .loop .out)
 fits c =
-    let start = c .before .before .before .before .before .before .before .before in
+    let start = call c in
     omega (arith, slot-within (start .args .l) (start .pre .0 .0) (c .before .loop .j) (in-copies c), c .before .loop .inv .1, c .before .loop .inv .4, start .pre .1 .1)
 
 -- all slots are done
@@ -82,26 +90,26 @@ part-lay-slot-end c = search needs
 
 lay-slot-requires : tie.Need-lay-slot-requires Inv-loop μ-loop
 lay-slot-requires c κs =
-    let start = c .before .before .before .before .before .before .before .before .before in
+    let start = call (c .before) in
     (start .pre .0 .0, standing (c .before) .0, standing (c .before) .1, start .pre .0 .4, start .pre .1 .0, simp (length-take, length-drop) (omega (arith, fits (c .before))))
 
 next-slot-requires : tie.Need-next-slot-requires Inv-loop μ-loop
 next-slot-requires c κs =
     let turn = c .before .before .before .before in
     let at = turn .before .loop in
-    let start = turn .before .before .before .before .before .before .before .before in
+    let start = call turn in
     let s = start .pre .0 .0 in
     (s, at .inv .2, standing turn .0)
 
 add-n : tie.Need-add-n Inv-loop μ-loop
 add-n c =
     let turn = c .before .before .before .before .before in
-    let start = turn .before .before .before .before .before .before .before .before in
+    let start = call turn in
     let at = turn .before .loop in
     omega (arith, slot-within (start .args .l) (start .pre .0 .0) (at .j) (in-copies turn), symbol-few (start .args .l) (start .pre .0 .0), at .inv .1, at .inv .6)
 
 add-j : tie.Need-add-j Inv-loop μ-loop
-add-j c = omega (arith, in-copies (c .before .before .before .before .before), c .before .before .before .before .before .before .before .before .before .before .before .before .before .pre .0 .0 .laid .small .copies-in)
+add-j c = let turn = c .before .before .before .before .before in omega (arith, in-copies turn, call turn .pre .0 .0 .laid .small .copies-in)
 
 loop-less : tie.Need-loop-less Inv-loop μ-loop
 loop-less c = omega (arith, in-copies (c .before .before .before .before .before))
@@ -111,7 +119,7 @@ loop-again c =
     let laid = c .before .before .before in
     let turn = c .before .before .before .before .before in
     let at = turn .before .loop in
-    let start = turn .before .before .before .before .before .before .before .before in
+    let start = call turn in
     let L = start .args .l in
     let s = start .pre .0 .0 in
     let j : at .j < L .copies = in-copies turn in (

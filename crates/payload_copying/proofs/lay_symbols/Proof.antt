@@ -9,6 +9,7 @@ use Rattle.bits.specs.Lists.{written}
 use Rattle.bits.proofs.NumberLaws.{row-next, row-within}
 use Rattle.bits.proofs.ListLaws.{written-none, written-part, written-all}
 use Rattle.payload_layout.specs.Items.{sentOn}
+use Rattle.payload_layout.specs.declared.Layout.{Layout}
 use Rattle.payload_layout.specs.Layouts.{symbolItems}
 use Rattle.payload_copying.specs.Loops.Slots.{slotNo, Standing}
 use Rattle.payload_copying.proofs.SlottedLaws.{symbol-few, items-rows}
@@ -23,15 +24,23 @@ Inv-loop l table coded out₀ row symbols s₀ n₀ y₀ out s n y =
 abbrev μ-loop : tie.MeasureT-loop
 μ-loop l table coded out₀ row symbols s₀ n₀ y₀ out s n y = l .symbols - y
 
+-- the call that a turn belongs to, and its layout
+abbrev call : tie.In-loop Inv-loop μ-loop → tie.Start Inv-loop μ-loop
+call c = c .before .before .before .before .before .before .before
+
+abbrev layout : tie.In-loop Inv-loop μ-loop → Layout
+layout c = call c .args .l
+
 -- a symbol's items are within the output
-in-symbols : (c : tie.In-loop Inv-loop μ-loop) → c .before .loop .y < c .before .before .before .before .before .before .before .args .l .symbols
+in-symbols : (c : tie.In-loop Inv-loop μ-loop) → c .before .loop .y < layout c .symbols
 in-symbols c = omega (arith, c .loop-test .taken, c .before .loop .inv .7)
 
-fits : (c : tie.In-loop Inv-loop μ-loop) → c .before .loop .n + symbolItems (c .before .before .before .before .before .before .before .args .l) ≤ length (c .before .loop .out)
+fits : (c : tie.In-loop Inv-loop μ-loop) → c .before .loop .n + symbolItems (layout c) ≤ length (c .before .loop .out)
 fits c =
-    let start = c .before .before .before .before .before .before .before in
+    let start = call c in
+    let L = start .args .l in
     let at = c .before .loop in
-    omega (arith, row-within (at .y) (symbolItems (start .args .l)) (start .args .l .symbols) (in-symbols c), items-rows (start .args .l) (start .pre .0), at .inv .1, at .inv .4, start .pre .3)
+    omega (arith, row-within (at .y) (symbolItems L) (L .symbols) (in-symbols c), items-rows L (start .pre .0), at .inv .1, at .inv .4, start .pre .3)
 
 mul-row : tie.Need-mul-row Inv-loop μ-loop
 mul-row c = omega (arith, symbol-few _ (c .before .before .before .before .pre .0))
@@ -41,8 +50,16 @@ first-slot-requires c κs = (c .before .before .before .before .pre .0, omega ar
 
 loop-holds : tie.Need-loop-holds Inv-loop μ-loop
 loop-holds c =
-    let L = c .before .before .before .before .before .args .l in
-    (search needs, sym (zero-mul (symbolItems L)), c .first-slot .ensures .0, c .first-slot .ensures .1 ∙ zero-mul (L .symbols) ∙ sym (zero-mul (L .copies)), refl, written-none _ _, refl, refl)
+    let L = c .before .before .before .before .before .args .l in (
+      search needs,
+      sym (zero-mul (symbolItems L)),
+      c .first-slot .ensures .0,
+      c .first-slot .ensures .1 ∙ zero-mul (L .symbols) ∙ sym (zero-mul (L .copies)),
+      refl,
+      written-none _ _,
+      refl,
+      refl,
+    )
 
 sub-lay-symbol : tie.Need-sub-lay-symbol Inv-loop μ-loop
 sub-lay-symbol c = omega (arith, fits c)
@@ -57,15 +74,16 @@ lay-symbol-requires : tie.Need-lay-symbol-requires Inv-loop μ-loop
 lay-symbol-requires c κs =
     let turn = c .before in
     let at = turn .before .loop in
-    let start = c .before .before .before .before .before .before .before .before in
+    let start = call turn in
     ((start .pre .0, in-symbols turn, at .inv .2, at .inv .3, start .pre .1), (start .pre .2, simp (length-take, length-drop) (omega (arith, fits turn))))
 
 add-n : tie.Need-add-n Inv-loop μ-loop
 add-n c =
     let turn = c .before .before .before .before in
-    let start = c .before .before .before .before .before .before .before .before .before .before .before in
+    let L = layout turn in
+    let s = call turn .pre .0 in
     let at = turn .before .loop in
-    omega (arith, row-within (at .y) (symbolItems (start .args .l)) (start .args .l .symbols) (in-symbols turn), items-rows (start .args .l) (start .pre .0), start .pre .0 .laid .small .items-in, at .inv .1, at .inv .6)
+    omega (arith, row-within (at .y) (symbolItems L) (L .symbols) (in-symbols turn), items-rows L s, s .laid .small .items-in, at .inv .1, at .inv .6)
 
 add-y : tie.Need-add-y Inv-loop μ-loop
 add-y c = omega (arith, in-symbols (c .before .before .before .before), c .before .before .before .before .before .loop .inv .7)
@@ -78,7 +96,7 @@ loop-again c =
     let laid = c .before .before in
     let turn = c .before .before .before .before in
     let at = turn .before .loop in
-    let start = c .before .before .before .before .before .before .before .before .before .before .before in
+    let start = call turn in
     let L = start .args .l in
     let sent = sentOn L (λ b. getD (start .args .coded .now) b 0) in (
       omega (arith, in-symbols turn),
