@@ -5,12 +5,12 @@ use Prim.Native.Nat.{ℕ, _+_, _*_, _/_, _%_, _<_}
 use native.Mathlib.Nat.{mul-assoc, add-mul, mod-lt, div-add-mod'}
 use native.Mathlib.Omega.{arith}
 use lib.Arith.{digits-div, digits-mod, digits-lt}
-use borrow.Author.Tests.{lt-ltb}
 use Rattle.address_interleaver.specs.Addresses.{circshift}
 use Rattle.payload_layout.specs.declared.Layout.{Layout}
 use Rattle.payload_layout.specs.Layouts.{groupCarriers, usedCarriers, copyCarriers}
 use Rattle.payload_layout.specs.Loops.Bounds.{Sound}
 use Rattle.payload_layout.specs.Items.{groupOrder, copyOrder, padded, copiedBit, used, carried}
+use Rattle.payload_layout.proofs.CarriedLaws.{low-used}
 
 -- the padded data's carrier at place p of slot t
 abbrev pub slotCarrier : Layout → ℕ → ℕ → ℕ
@@ -76,8 +76,7 @@ module _ (L : Layout) (s : Sound L) where
     there = omega (arith, in-used, s .there)
 
     pub slot-used : used L item ≡ true
-    unfolding used
-    slot-used = lt-ltb _ (usedCarriers L) (omega (arith, at-place y (j * groupCarriers L + p) e there he, in-used))
+    slot-used = low-used L item (omega (arith, at-place y (j * groupCarriers L + p) e there he, in-used))
 
     pub slot-carried : carried L item ≡ padded L ((y * L .copies + j) / L .symbols) (slotCarrier L (y * L .copies + j) p * L .bits + e)
     slot-carried =

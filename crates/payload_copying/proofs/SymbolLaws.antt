@@ -6,12 +6,12 @@ use native.Mathlib.Nat.{mul-assoc, mul-comm, add-mul, mod-lt, div-add-mod', div-
 use native.Mathlib.Omega.{arith}
 use lib.Arith.{digits-div, digits-mod, digits-lt}
 use lib.Dec.{eqb}
-use borrow.Author.Tests.{le-ltb}
 use Rattle.bits.proofs.NumberLaws.{lt-cases, row-within}
 use Rattle.address_interleaver.specs.Addresses.{circshift}
 use Rattle.payload_layout.specs.declared.Layout.{Layout}
 use Rattle.payload_layout.specs.Layouts.{groupCarriers, usedCarriers, groupBits, symbolItems}
 use Rattle.payload_layout.specs.Items.{groupOrder, padded, used, carried, carries, sentOn}
+use Rattle.payload_layout.proofs.CarriedLaws.{top-unused}
 use Rattle.payload_layout.proofs.ItemLaws.{unused-sent}
 use Rattle.payload_copying.specs.declared.Slot.{Slot}
 use Rattle.payload_copying.specs.Loops.Slots.{Slotted, slotNo, Standing, slotBit}
@@ -86,7 +86,6 @@ module _ (L : Layout) (z : Slotted L) where
   -- ---- the unused carriers
 
   pub unused-at : (y i : ℕ) → i < symbolItems L → L .copies * groupBits L ≤ i → used L (y * symbolItems L + i) ≡ false
-  unfolding used
   unused-at y i h l =
       let B = L .bits in
       let b : 0 < B = z .laid .sound .bits-pos in
@@ -100,7 +99,7 @@ module _ (L : Layout) (z : Slotted L) where
       lt-cases (i / B) (usedCarriers L)
       (λ k. absurd (omega (arith, div-add-mod' i B, row-within (i / B) B (usedCarriers L) k, mul-assoc (L .copies) (groupCarriers L) B)))
       (λ k. k) in
-      le-ltb _ (usedCarriers L) (omega (arith, q))
+      top-unused L (y * symbolItems L + i) (omega (arith, q))
 
   pub cleared : (d : ℕ → ℕ) (y i : ℕ) → i < symbolItems L → L .copies * groupBits L ≤ i → 0 ≡ sentOn L d (y * symbolItems L + i)
   cleared d y i h l = sym (unused-sent L d (y * symbolItems L + i) (unused-at y i h l))

@@ -1,7 +1,7 @@
 -- What items carry: of one copy the coded bits in order, and from 0 on again, on every carrier; of every layout a coded bit where they are
 -- used. Assumes nothing.
 use mathlib.Core.Path.{_≡_, sym, ap, ap₂, _∙_}
-use mathlib.Core.Bool.{true, cond}
+use mathlib.Core.Bool.{true, false, cond}
 use Prim.Native.Nat.{ℕ, zero, _+_, _-_, _*_, _/_, _%_, _<_, _≤_}
 use native.Mathlib.Nat.{one-mul, zero-mul, zero-div, mod-lt, mod-eq-of-lt, div-eq-of-lt, div-add-mod', div-lt-iff-lt-mul, mul-assoc, mul-left-comm, mul-pos}
 use native.Mathlib.Omega.{arith}
@@ -30,6 +30,20 @@ module _ (L : Layout) (s : Sound L) (n : ℕ) (h : n < items L) where
 
   pub symbol-lt : symbolOf L n < L .symbols
   symbol-lt = div-lt-iff-lt-mul {k = L .carriers} carriers-pos .1 carrier-lt
+
+-- ---- which items are used: those at the low places, and not those at the top
+
+pub low-used : (L : Layout) (n : ℕ) → placeOf L n < usedCarriers L → used L n ≡ true
+unfolding used
+low-used L n h = lt-ltb (placeOf L n) (usedCarriers L) h
+
+pub top-unused : (L : Layout) (n : ℕ) → usedCarriers L ≤ placeOf L n → used L n ≡ false
+unfolding used
+top-unused L n h = le-ltb (placeOf L n) (usedCarriers L) h
+
+used-low : (L : Layout) (n : ℕ) → used L n ≡ true → placeOf L n < usedCarriers L
+unfolding used
+used-low L n h = ltb-true (placeOf L n) (usedCarriers L) h
 
 -- ---- one copy
 
@@ -68,8 +82,7 @@ module _ (L : Layout) (s : Sound L) (one : L .copies ≡ 1) where
 
   module _ (n : ℕ) (h : n < items L) where
     pub all-used : used L n ≡ true
-    unfolding used
-    all-used = lt-ltb (placeOf L n) (usedCarriers L) (omega (arith, used-all, mod-lt (n / L .bits) (carriers-pos L s n h)))
+    all-used = low-used L n (omega (arith, used-all, mod-lt (n / L .bits) (carriers-pos L s n h)))
 
     in-padded : carried L n ≡ padded L 0 n
     unfolding carried copiedBit
@@ -121,13 +134,12 @@ module _ (L : Layout) (laid : Laid L) where
 
   -- what a used item carries is a coded bit
   pub carried-below : (n : ℕ) → n < items L → used L n ≡ true → carried L n < L .coded
-  unfolding carried used
+  unfolding carried
   carried-below n h t =
-      let place : placeOf L n < usedCarriers L = ltb-true (placeOf L n) (usedCarriers L) t in
       copied-below (symbolOf L n * usedCarriers L + placeOf L n) (n % L .bits)
       (omega (
         arith,
-        digits-lt {c = usedCarriers L} (symbol-lt L (laid .sound) n h) place,
+        digits-lt {c = usedCarriers L} (symbol-lt L (laid .sound) n h) (used-low L n t),
         mul-left-comm (L .symbols) (L .copies) (groupCarriers L),
       ))
       (mod-lt n (laid .sound .bits-pos))
