@@ -74,8 +74,8 @@ fn decide_once(l: Layout, items: &[u8], out: &mut [u8])
 
 // ---- more copies
 
-// The least bits of a group that are counted as a run: from here on a run is counted several at a time.
-const SHORT: usize = 8;
+// The fewest bits of a group that are counted as a run: from here on several are counted at a time.
+const SHORTEST_RUN: usize = 8;
 
 // The carriers of `items`, put back where the given order takes them from.
 fn spread(bits: usize, order: &[u16], items: &[u8], group: &mut [u8])
@@ -174,7 +174,7 @@ fn count_slot(
     ensures { λ _. ⌜ now (counters .exit) ≡ counted (l .coded) (groupBits l) (slotOn l (s .copy) (s .group)) (now (items .entry)) (now (counters .entry)) ⌝ }
 {
     if l.bits == 1 {
-        if l.interleavers * l.span < SHORT {
+        if l.interleavers * l.span < SHORTEST_RUN {
             count_narrow(l, s.copy, s.group, table, items, counters);
             return;
         }
