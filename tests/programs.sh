@@ -1,7 +1,7 @@
 #!/usr/bin/env bash
-# The programs `encode`, `decode` and `print_card` write what the same programs over the reference write, in every mode, and on every band
-# with every copy count in three modes, on bad files and on refused cards, each with a stack of 512 KB. They are taken from target/bin, where `rt check` or `rt ci` put
-# them.
+# The programs `encode`, `decode` and `print_card` write what the same programs over the reference write: in every mode, on every band with
+# every copy count in three modes, on bad files and on refused cards, each with a stack of 512 KB. They are taken from target/bin, where
+# `rt check` or `rt ci` put them.
 set -eu
 cd "$(dirname "$0")/.."
 cargo build --quiet --release --offline --manifest-path reference/Cargo.toml
