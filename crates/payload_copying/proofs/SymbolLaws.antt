@@ -17,6 +17,10 @@ use Rattle.payload_copying.specs.declared.Slot.{Slot}
 use Rattle.payload_copying.specs.Loops.Slots.{Slotted, slotNo, Standing, slotBit}
 use Rattle.payload_copying.proofs.ItemLaws.{slotCarrier, at-place, slot-used, slot-carried}
 
+-- a slot names a copy and a group that there are
+abbrev pub Within : Layout → Slot → Type 0
+Within L s = (s .copy < L .copies) × (s .group < L .symbols)
+
 module _ (L : Layout) (z : Slotted L) where
   pub used-bits : L .copies * groupBits L ≤ symbolItems L
   used-bits =
@@ -28,8 +32,7 @@ module _ (L : Layout) (z : Slotted L) where
   -- ---- the slot at which a walk stands
 
   module _ (y j : ℕ) (s : Slot) (hy : y < L .symbols) (hj : j < L .copies) (at : Standing L s) (no : slotNo L s ≡ y * L .copies + j) where
-    -- it names a copy and a group that there are
-    pub slot-in : (s .copy < L .copies) × (s .group < L .symbols)
+    pub slot-in : Within L s
     slot-in =
         let l : y * L .copies + j < L .symbols * L .copies = digits-lt {c = L .copies} hy hj in (
           lt-of-mul-lt-mul-right (L .symbols) (omega (arith, no, mul-comm (L .symbols) (L .copies))),

@@ -8,13 +8,12 @@ use borrow.Author.Needs.{needs}
 use Rattle.bits.proofs.NumberLaws.{row-next, row-within}
 use Rattle.votes.specs.Loops.Counters.{counted}
 use Rattle.votes.proofs.CounterLaws.{counted-long}
-use Rattle.payload_layout.specs.declared.Layout.{Layout}
 use Rattle.payload_layout.specs.Layouts.{symbolItems, items, groupBits}
 use Rattle.payload_layout.specs.Items.{carries}
 use Rattle.payload_copying.specs.Loops.Slots.{slotNo, Standing}
 use Rattle.payload_combining.specs.Loops.Groups.{middles}
 use Rattle.payload_copying.proofs.SlottedLaws.{group-few, carriers-few, symbol-few, items-rows}
-use Rattle.payload_copying.proofs.SymbolLaws.{used-bits, slot-within, slot-in}
+use Rattle.payload_copying.proofs.SymbolLaws.{Within, used-bits, slot-within, slot-in}
 use Rattle.payload_combining.proofs.VoteLaws.{slot-more, symbol-done}
 use Rattle.payload_combining.proofs.count_symbol.Statement.{statement}
 use Rattle.payload_combining.proofs.count_symbol.Tie as tie
@@ -27,26 +26,19 @@ Inv-loop l y table items group₀ counters₀ G copies s₀ j₀ n₀ group coun
 abbrev μ-loop : tie.MeasureT-loop
 μ-loop l y table items group₀ counters₀ G copies s₀ j₀ n₀ group counters s j n = l .copies - j
 
--- the call that a turn belongs to, and its layout
+-- the call that a turn belongs to
 abbrev call : tie.In-loop Inv-loop μ-loop → tie.Start Inv-loop μ-loop
 call c = c .before .before .before .before .before .before .before .before .before
 
-abbrev layout : tie.In-loop Inv-loop μ-loop → Layout
-layout c = call c .args .l
-
 -- a slot is within the items
-in-copies : (c : tie.In-loop Inv-loop μ-loop) → c .before .loop .j < layout c .copies
+in-copies : (c : tie.In-loop Inv-loop μ-loop) → c .before .loop .j < call c .args .l .copies
 in-copies c = omega (arith, c .loop-test .taken, c .before .loop .inv .8)
 
 -- the slot at which the walk stands
-standing : (c : tie.In-loop Inv-loop μ-loop)
-    → (c .before .loop .s .copy < layout c .copies) × (c .before .loop .s .group < layout c .symbols)
-standing c =
-    let start = call c in
-    let at = c .before .loop in
-    slot-in (start .args .l) (start .pre .0 .0) (start .args .y) (at .j) (at .s) (start .pre .0 .1) (in-copies c) (at .inv .2) (at .inv .3)
+standing : (c : tie.In-loop Inv-loop μ-loop) → Within (call c .args .l) (c .before .loop .s)
+standing c = slot-in _ (call c .pre .0 .0) _ _ _ (call c .pre .0 .1) (in-copies c) (c .before .loop .inv .2) (c .before .loop .inv .3)
 
-fits : (c : tie.In-loop Inv-loop μ-loop) → c .before .loop .n + groupBits (layout c) ≤ items (layout c)
+fits : (c : tie.In-loop Inv-loop μ-loop) → c .before .loop .n + groupBits (call c .args .l) ≤ items (call c .args .l)
 fits c =
     let start = call c in
     let L = start .args .l in

@@ -9,11 +9,10 @@ use Rattle.bits.specs.Lists.{written}
 use Rattle.bits.proofs.NumberLaws.{row-next}
 use Rattle.bits.proofs.ListLaws.{written-none, written-part, written-all}
 use Rattle.payload_layout.specs.Items.{sentOn}
-use Rattle.payload_layout.specs.declared.Layout.{Layout}
 use Rattle.payload_layout.specs.Layouts.{groupBits, symbolItems}
 use Rattle.payload_copying.specs.Loops.Slots.{slotNo, Standing}
 use Rattle.payload_copying.proofs.SlottedLaws.{group-few, carriers-few, symbol-few}
-use Rattle.payload_copying.proofs.SymbolLaws.{used-bits, slot-within, slot-in, slot-sent, cleared}
+use Rattle.payload_copying.proofs.SymbolLaws.{Within, used-bits, slot-within, slot-in, slot-sent, cleared}
 use Rattle.payload_copying.proofs.lay_symbol.Statement.{statement}
 use Rattle.payload_copying.proofs.lay_symbol.Tie as tie
 
@@ -26,26 +25,19 @@ Inv-loop l y table coded out₀ G row copies s₀ j₀ n₀ out s j n =
 abbrev μ-loop : tie.MeasureT-loop
 μ-loop l y table coded out₀ G row copies s₀ j₀ n₀ out s j n = l .copies - j
 
--- the call that a turn belongs to, and its layout
+-- the call that a turn belongs to
 abbrev call : tie.In-loop Inv-loop μ-loop → tie.Start Inv-loop μ-loop
 call c = c .before .before .before .before .before .before .before .before
 
-abbrev layout : tie.In-loop Inv-loop μ-loop → Layout
-layout c = call c .args .l
-
 -- a slot is within the symbol
-in-copies : (c : tie.In-loop Inv-loop μ-loop) → c .before .loop .j < layout c .copies
+in-copies : (c : tie.In-loop Inv-loop μ-loop) → c .before .loop .j < call c .args .l .copies
 in-copies c = omega (arith, c .loop-test .taken, c .before .loop .inv .8)
 
 -- the slot at which the walk stands
-standing : (c : tie.In-loop Inv-loop μ-loop)
-    → (c .before .loop .s .copy < layout c .copies) × (c .before .loop .s .group < layout c .symbols)
-standing c =
-    let start = call c in
-    let at = c .before .loop in
-    slot-in (start .args .l) (start .pre .0 .0) (start .args .y) (at .j) (at .s) (start .pre .0 .1) (in-copies c) (at .inv .2) (at .inv .3)
+standing : (c : tie.In-loop Inv-loop μ-loop) → Within (call c .args .l) (c .before .loop .s)
+standing c = slot-in _ (call c .pre .0 .0) _ _ _ (call c .pre .0 .1) (in-copies c) (c .before .loop .inv .2) (c .before .loop .inv .3)
 
-fits : (c : tie.In-loop Inv-loop μ-loop) → c .before .loop .n + groupBits (layout c) ≤ length (c .before .loop .out)
+fits : (c : tie.In-loop Inv-loop μ-loop) → c .before .loop .n + groupBits (call c .args .l) ≤ length (c .before .loop .out)
 fits c =
     let start = call c in
     omega (arith, slot-within (start .args .l) (start .pre .0 .0) (c .before .loop .j) (in-copies c), c .before .loop .inv .1, c .before .loop .inv .4, start .pre .1 .1)

@@ -9,7 +9,6 @@ use Rattle.bits.specs.Lists.{written}
 use Rattle.bits.proofs.NumberLaws.{row-next, row-within}
 use Rattle.bits.proofs.ListLaws.{written-none, written-part, written-all}
 use Rattle.payload_layout.specs.Items.{sentOn}
-use Rattle.payload_layout.specs.declared.Layout.{Layout}
 use Rattle.payload_layout.specs.Layouts.{symbolItems}
 use Rattle.payload_copying.specs.Loops.Slots.{slotNo, Standing}
 use Rattle.payload_copying.proofs.SlottedLaws.{symbol-few, items-rows}
@@ -24,18 +23,15 @@ Inv-loop l table coded out₀ row symbols s₀ n₀ y₀ out s n y =
 abbrev μ-loop : tie.MeasureT-loop
 μ-loop l table coded out₀ row symbols s₀ n₀ y₀ out s n y = l .symbols - y
 
--- the call that a turn belongs to, and its layout
+-- the call that a turn belongs to
 abbrev call : tie.In-loop Inv-loop μ-loop → tie.Start Inv-loop μ-loop
 call c = c .before .before .before .before .before .before .before
 
-abbrev layout : tie.In-loop Inv-loop μ-loop → Layout
-layout c = call c .args .l
-
 -- a symbol's items are within the output
-in-symbols : (c : tie.In-loop Inv-loop μ-loop) → c .before .loop .y < layout c .symbols
+in-symbols : (c : tie.In-loop Inv-loop μ-loop) → c .before .loop .y < call c .args .l .symbols
 in-symbols c = omega (arith, c .loop-test .taken, c .before .loop .inv .7)
 
-fits : (c : tie.In-loop Inv-loop μ-loop) → c .before .loop .n + symbolItems (layout c) ≤ length (c .before .loop .out)
+fits : (c : tie.In-loop Inv-loop μ-loop) → c .before .loop .n + symbolItems (call c .args .l) ≤ length (c .before .loop .out)
 fits c =
     let start = call c in
     let L = start .args .l in
@@ -80,7 +76,7 @@ lay-symbol-requires c κs =
 add-n : tie.Need-add-n Inv-loop μ-loop
 add-n c =
     let turn = c .before .before .before .before in
-    let L = layout turn in
+    let L = call turn .args .l in
     let s = call turn .pre .0 in
     let at = turn .before .loop in
     omega (arith, row-within (at .y) (symbolItems L) (L .symbols) (in-symbols turn), items-rows L s, s .laid .small .items-in, at .inv .1, at .inv .6)
