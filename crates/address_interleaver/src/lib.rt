@@ -1,6 +1,8 @@
 // The address interleavers of a copied payload (5.1.5.5.5 of source 000): their addresses, by a walk down the columns.
 //
 // Internal: nothing here is a public entry, and callers show what a function requires.
+#![tactic(auto)]
+
 ghost use Rattle.std.specs.Prelude.{◌≡◌, ◌+◌, ◌*◌, ◌%◌, ◌<◌, ◌≤◌, length};
 ghost use Rattle.bits.specs.Lists.{written};
 ghost use Rattle.address_interleaver.specs.Addresses.{circshift, columns, out_addr};

@@ -2,6 +2,8 @@
 //
 // `place_of` and `sub_carrier_of` are public entries: they take every number and refuse by the table. The rest is internal, and its
 // callers show what it requires.
+#![tactic(auto)]
+
 ghost use Rattle.std.specs.Prelude.{◌≡◌, ◌<◌};
 ghost use Rattle.refusal.specs.Report.{answer};
 ghost use Rattle.bands.specs.Bands.{band_count, first_sub_carrier, last_sub_carrier, symbols as symbols_of, symbol_offsets, carriers as carriers_of};
@@ -10,21 +12,21 @@ ghost use Rattle.bands.specs.Units.{place_report, sub_carrier_report, place_of, 
 use refusal::{Answer, Refusal};
 
 // The number of a sub-carrier.
-#[derive(Drop)]
+#[derive(Clone, Copy)]
 pub struct SubCarrier(pub usize);
 
 // A place in a band's usable list (paper 01's term): place 0 is the band's first sub-carrier.
-#[derive(Drop)]
+#[derive(Clone, Copy)]
 pub struct Place(pub usize);
 
 // What the two conversions answer.
-#[derive(Drop)]
+#[derive(Clone, Copy)]
 pub enum PlaceOf {
     At(Place),
     Refused(Refusal),
 }
 
-#[derive(Drop)]
+#[derive(Clone, Copy)]
 pub enum SubCarrierOf {
     At(SubCarrier),
     Refused(Refusal),

@@ -1,6 +1,8 @@
 // Bits of bytes, most significant first, four bytes of a list as one word, and the small loops over slices that every crate above uses.
 //
 // Internal: nothing here is a public entry. A function with a `requires` is called only where its caller has shown it.
+#![tactic(auto)]
+
 ghost use Rattle.std.specs.Prelude.{◌≡◌, not, ◌++◌, ℕ, ◌+◌, ◌-◌, ◌*◌, ◌/◌, ◌%◌, ◌^◌, ◌<◌, ◌≤◌, eqb, length, get_or, drop};
 ghost use Rattle.std.specs.Int.Bits.{bit_xor};
 ghost use Rattle.bits.specs.Lists.{tabulate, written, first_above};

@@ -6,6 +6,8 @@
 //   serial 64
 //
 // Public entries: `read_card` and `read_fields`. Everything else that is `pub` is internal.
+#![tactic(auto)]
+
 ghost use Rattle.std.specs.Prelude.{◌≡◌, ◌++◌, true, ◌&&◌, ◌||◌, not, ◌<◌, ◌≤◌, eqb, length, drop};
 ghost use Rattle.refusal.specs.Report.{answer};
 ghost use Rattle.card.specs.Modes.{block_bytes, carrier_bits, defined_mode, defined_counts, defined};
@@ -26,7 +28,7 @@ const COPY_COUNTS: [u64; 8] = [1, 2, 4, 5, 7, 11, 0, 0];
 const CARRIER_BITS: [usize; 3] = [1, 2, 4];
 
 // A card's fields. Each is wide enough to hand over a value that does not fit the card.
-#[derive(Drop)]
+#[derive(Clone, Copy)]
 pub struct Card {
     pub version: u64,
     pub band: u64,
@@ -41,7 +43,7 @@ pub struct Card {
 }
 
 // What reading a card answers.
-#[derive(Drop)]
+#[derive(Clone, Copy)]
 pub enum CardRead {
     Good(Card),
     Refused(Refusal),

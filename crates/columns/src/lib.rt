@@ -2,6 +2,8 @@
 // 0 or 1, and back.
 //
 // Internal: nothing here is a public entry. A function with a `requires` is called only where its caller has shown it.
+#![tactic(auto)]
+
 ghost use Rattle.std.specs.Prelude.{◌≡◌, ℕ, ◌+◌, ◌-◌, ◌*◌, ◌/◌, ◌%◌, ◌<◌, ◌≤◌, length, get_or};
 ghost use Rattle.bits.specs.Lists.{written};
 ghost use Rattle.bits.specs.Bits.{bit_at, bit_of, pack, byte_of};

@@ -2,6 +2,8 @@
 // copies from, and their strict majority.
 //
 // Internal: nothing here is a public entry, and callers show what a function requires.
+#![tactic(auto)]
+
 ghost use Rattle.std.specs.Prelude.{◌≡◌, ◌+◌, ◌*◌, ◌/◌, ◌%◌, ◌<◌, ◌≤◌, length, get_or, replicate};
 ghost use Rattle.bits.specs.Lists.{tabulate, written};
 ghost use Rattle.votes.specs.Votes.{carries, majority as majority_of, decided};

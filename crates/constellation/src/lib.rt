@@ -1,6 +1,8 @@
 // Constellation points (Q/GDW 11612.41-2016, Tables 15, 16 and 18): a carrier's bits to a point of two f64 coordinates.
 //
 // Public entries, none with a `requires`: map, and map_into, the same over lent memory. The rest is internal.
+#![tactic(auto)]
+
 ghost use Rattle.std.specs.Prelude.{◌≡◌, [], ◌∷◌, ℕ, ◌<◌, length, get_or};
 ghost use Rattle.std.specs.Float.{binary64};
 ghost use Rattle.std.specs.Float.Ieee.{of_int};
@@ -22,21 +24,21 @@ const QPSK_FACTOR: f64 = QPSK_NUMERATOR as f64 / 9007199254740992.0;
 pub const QAM_FACTOR: f64 = QAM_NUMERATOR as f64 / 18014398509481984.0;
 
 // A point: its I and Q coordinates.
-#[derive(Drop)]
+#[derive(Clone, Copy)]
 pub struct Point {
     pub i: f64,
     pub q: f64,
 }
 
 // What mapping answers.
-#[derive(Drop)]
+#[derive(Clone, Copy)]
 pub enum Mapped {
     At(Point),
     Refused(Refusal),
 }
 
 // The two items of a 16QAM axis. A label is such a pair, and so is what `slicing` makes of a coordinate.
-#[derive(Drop)]
+#[derive(Clone, Copy)]
 pub struct Pair {
     pub first: u8,
     pub second: u8,

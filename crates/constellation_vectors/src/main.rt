@@ -2,6 +2,7 @@
 //
 // `map M D I Q`: the modulation, its bits from d0 on, and the bits of the two f64 coordinates. `slice M A B ITEMS`: the coordinates
 // `value(A)` and `value(B)`, and the items; `lost` stands in place of A and B for a lost carrier.
+#![tactic(auto)]
 use constellation::Mapped;
 use refusal::{Answer, Refusal};
 use slicing::{Received, Sliced};

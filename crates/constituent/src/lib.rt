@@ -2,6 +2,8 @@
 // ends where it began. Two encoders go over two lists of pairs at a time.
 //
 // Internal: nothing here is a public entry. A function with a `requires` is called only where its caller has shown it.
+#![tactic(auto)]
+
 ghost use Rattle.std.specs.Prelude.{◌≡◌, ◌+◌, ◌*◌, ◌/◌, ◌%◌, ◌^◌, ◌<◌, ◌≤◌, length, replicate};
 ghost use Rattle.std.specs.Int.Bits.{bit_xor};
 ghost use Rattle.bits.specs.Bits.{bit_of, byte_of};
@@ -92,7 +94,7 @@ fn by_bytes(taps: u16, table: &mut [u16])
 }
 
 // What the byte zero does to an encoder, eight bits for each of its states: eight times the state after it, and the parity bits.
-#[derive(Drop)]
+#[derive(Clone, Copy)]
 pub struct Rows {
     pub taps: u16,
     pub states: u64,
@@ -159,7 +161,7 @@ pub fn four(a: u8, b: u8, c: u8, d: u8) -> u8
 }
 
 // The states of encoder 1 and encoder 2.
-#[derive(Drop)]
+#[derive(Clone, Copy)]
 pub struct States {
     pub first: u8,
     pub second: u8,

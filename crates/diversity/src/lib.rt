@@ -1,6 +1,8 @@
 // The copies of frame control's coded bits on the lanes (000, 5.1.4.4).
 //
 // Internal: nothing here is a public entry, and callers show what a function requires.
+#![tactic(auto)]
+
 ghost use Rattle.std.specs.Prelude.{◌≡◌, ◌+◌, ◌*◌, ◌%◌, ◌<◌, ◌≤◌, length, replicate, slice_index};
 ghost use Rattle.bits.specs.Lists.{tabulate, written};
 ghost use Rattle.diversity.specs.Lanes.{lane_bit, item_count};

@@ -1,5 +1,6 @@
 // Writes the items of a word or a block, a byte an item: `encode CARD BLOCK`, both names of files. A refusal is written as two lines,
 // its number and what comes with it.
+#![tactic(auto)]
 use refusal::Answer;
 
 // The items of some bytes under a card, at most 101,920 (D27).

@@ -4,6 +4,8 @@
 // majority of its copies, undoes the shuffle and compares the parity. Frame control is not scrambled.
 //
 // Public entries: `send` and `read`. Refusals are those of paper 01's table, in its order; a refusal keeps `out`.
+#![tactic(auto)]
+
 ghost use Rattle.std.specs.Prelude.{◌≡◌, ◌<◌, ◌≤◌, length};
 ghost use Rattle.refusal.specs.Report.{answer};
 ghost use Rattle.bands.specs.Bands.{band_count, carriers as carriers_of, offsets as offsets_of};

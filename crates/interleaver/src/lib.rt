@@ -2,6 +2,8 @@
 // bits and then the kept parity bits, each coded bit is, and a block's bits, four to a row, put into that order and back.
 //
 // Internal: nothing here is a public entry. A function with a `requires` is called only where its caller has shown it.
+#![tactic(auto)]
+
 ghost use Rattle.std.specs.Prelude.{◌≡◌, false, cond, ◌+◌, ◌*◌, ◌/◌, ◌%◌, ◌<◌, ◌≤◌, min, length, get_or};
 ghost use Rattle.bits.specs.Lists.{written};
 ghost use Rattle.card.specs.Modes.{Defined};
@@ -18,7 +20,7 @@ ghost use Rattle.interleaver.specs.Loops.Stores.{target, origin, carried};
 use interleaver_shape::Shape;
 
 // Where the joined stream stands: its next nibble, how many data nibbles come before its next parity nibble, and that nibble's row.
-#[derive(Drop)]
+#[derive(Clone, Copy)]
 struct Stand {
     nibble: usize,
     left: usize,
@@ -26,7 +28,7 @@ struct Stand {
 }
 
 // Where a run of pairs stands: its next nibble, that nibble's row, and the pass.
-#[derive(Drop)]
+#[derive(Clone, Copy)]
 struct Run {
     nibble: usize,
     row: usize,

@@ -2,13 +2,15 @@
 // coded bits a block has.
 //
 // Internal: nothing here is a public entry. A function with a `requires` is called only where its caller has shown it.
+#![tactic(auto)]
+
 ghost use Rattle.std.specs.Prelude.{◌≡◌, false, ◌*◌, ◌<◌};
 ghost use Rattle.card.specs.Modes.{block_bytes, Defined};
 ghost use Rattle.interleaver_shape.specs.Shapes.{shape_of, coded_bits};
 ghost use Rattle.interleaver_shape.specs.Loops.Bounds.{Sound, Small, Near, Paired};
 
 // The shape of the interleaver at one kind and rate (000, Table 11).
-#[derive(Drop)]
+#[derive(Clone, Copy)]
 pub struct Shape {
     // data rows, and parity rows
     pub rows: usize,

@@ -1,4 +1,5 @@
 // Prints, for each kind and rate, the source bit numbers of coded bits 0, 1 and so on, as the interleaver puts them in order.
+#![tactic(auto)]
 ghost use Rattle.std.specs.Prelude.{◌≡◌, ◌+◌, ◌*◌, ◌<◌, ◌≤◌, length};
 ghost use Rattle.card.specs.Modes.{Defined};
 ghost use Rattle.interleaver_shape.specs.Shapes.{coded_bits};

@@ -2,6 +2,8 @@
 //
 // Internal: the programs' own floor over the entries, and nothing here is a public entry. `send` and `read` take anything and refuse
 // as the entries do.
+#![tactic(auto)]
+
 ghost use Rattle.std.specs.Prelude.{◌≡◌, ◌≤◌, length};
 ghost use Rattle.refusal.specs.Report.{answer};
 ghost use Rattle.text.specs.Text.{appended};

@@ -2,6 +2,7 @@
 //
 // Internal: nothing here is a public entry. What the system's calls do is assumed, as in every program, and no contract can say what is
 // written (D24): a function here answers nothing and is lent nothing to write to.
+#![tactic(auto)]
 use libc::STDOUT_FILENO;
 
 // Some bytes.

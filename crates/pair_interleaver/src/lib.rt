@@ -1,6 +1,8 @@
 // The pair interleaver of a block (000, 5.1.5.3): the pairs that encoder 2 reads.
 //
 // Internal: nothing here is a public entry. A function with a `requires` is called only where its caller has shown it.
+#![tactic(auto)]
+
 ghost use Rattle.std.specs.Prelude.{◌≡◌, ◌+◌, ◌*◌, ◌/◌, ◌<◌, ◌≤◌, length, get_or};
 ghost use Rattle.bits.specs.Bits.{bit_of};
 ghost use Rattle.bits.specs.Lists.{written};

@@ -2,6 +2,8 @@
 // items back to its bytes.
 //
 // Public entries: `send` and `read`. Nothing else is `pub`.
+#![tactic(auto)]
+
 ghost use Rattle.std.specs.Prelude.{◌≡◌, ◌<◌, ◌≤◌, length};
 ghost use Rattle.bits.specs.Lists.{written};
 ghost use Rattle.refusal.specs.Report.{answer};

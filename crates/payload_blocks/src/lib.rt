@@ -2,6 +2,8 @@
 // back each is recovered from its own part of the decided bits, and all are given or none.
 //
 // Internal: nothing here is a public entry, and callers show what a function requires.
+#![tactic(auto)]
+
 ghost use Rattle.std.specs.Prelude.{◌≡◌, ◌*◌, ◌≤◌, ◌<◌, length, get_or};
 ghost use Rattle.bits.specs.Lists.{written};
 ghost use Rattle.refusal.specs.Report.{answer, done};

@@ -1,6 +1,8 @@
 // The coded bits that received items of a payload decide: by strict majority of their copies, which are counted slot by slot.
 //
 // Internal: nothing here is a public entry, and callers show what a function requires.
+#![tactic(auto)]
+
 ghost use Rattle.std.specs.Prelude.{◌≡◌, ℕ, ◌+◌, ◌*◌, ◌<◌, ◌≤◌, length, get_or};
 ghost use Rattle.bits.specs.Lists.{written};
 ghost use Rattle.bits.specs.Permutations.{Permutes};

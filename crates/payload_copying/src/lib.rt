@@ -1,6 +1,8 @@
 // The items of a payload that go out: the coded bits once, or copied over the slots of the symbols.
 //
 // Internal: nothing here is a public entry, and callers show what a function requires. `payload_combining` walks the same slots.
+#![tactic(auto)]
+
 ghost use Rattle.std.specs.Prelude.{◌≡◌, ℕ, ◌+◌, ◌*◌, ◌<◌, ◌≤◌, length, get_or, replicate};
 ghost use Rattle.bits.specs.Lists.{written};
 ghost use Rattle.payload_layout.specs.Layouts.{items as items_of, symbol_items, used_carriers, group_bits};
@@ -38,7 +40,7 @@ pub fn table_of(l: Layout) -> [u16; 410]
 // ---- the walk over the slots
 
 // Where a walk over the slots stands: a position of a copy, and the group that stands there.
-#[derive(Drop)]
+#[derive(Clone, Copy)]
 pub struct Slot {
     pub copy: usize,
     pub position: usize,

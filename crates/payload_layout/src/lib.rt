@@ -1,6 +1,8 @@
 // A payload's layout: the numbers by which its coded bits stand on the carriers, copied as often as a card says.
 //
 // Internal: nothing here is a public entry, and callers show what a function requires.
+#![tactic(auto)]
+
 ghost use Rattle.std.specs.Prelude.{◌≡◌, ◌<◌, ◌≤◌};
 ghost use Rattle.card.specs.Card.{copy_code};
 ghost use Rattle.bands.specs.Bands.{band_count};
@@ -13,7 +15,7 @@ const ALL_INTERLEAVERS: [usize; 6] = [1, 8, 8, 10, 14, 11];
 const GROUP_INTERLEAVERS: [usize; 6] = [1, 4, 2, 2, 2, 1];
 
 // The numbers of a payload's layout.
-#[derive(Drop)]
+#[derive(Clone, Copy)]
 pub struct Layout {
     // carriers of a symbol, bits a carrier, and symbols
     pub carriers: usize,

@@ -1,6 +1,7 @@
 // Prints the job card on standard input, or `refused` and the number.
 //
 // It reads past a card's end before the length is judged, so a card that is too long is refused too.
+#![tactic(auto)]
 use libc::STDIN_FILENO;
 use refusal::Answer;
 

@@ -1,6 +1,8 @@
 // The printed card (D11): a line for each field of a job card but spare, and the counts only in version 2, or `refused` and the number.
 //
 // Public entry: `card_text`, whose text has at most `LONGEST` bytes. Everything else is internal.
+#![tactic(auto)]
+
 ghost use Rattle.std.specs.Prelude.{◌≡◌, [], ◌+◌, ◌≤◌, length};
 ghost use Rattle.refusal.specs.Report.{answer, refusal};
 ghost use Rattle.text.specs.Text.{line, decimal, binary};
@@ -14,7 +16,7 @@ use refusal::{Answer, Refusal};
 pub const LONGEST: usize = 108;
 
 // A text that is being made: its bytes, and how many of them there are so far.
-#[derive(Drop)]
+#[derive(Clone, Copy)]
 pub struct Draft {
     pub bytes: [u8; LONGEST],
     pub len: usize,

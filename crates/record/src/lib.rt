@@ -1,6 +1,8 @@
 // A record of the file that `vectors` runs: what its call must give, and the comparison of what the call gives with that.
 //
 // Internal: nothing here is a public entry.
+#![tactic(auto)]
+
 ghost use Rattle.std.specs.Prelude.{◌≡◌, ◌&&◌, ◌+◌, ◌<◌, eqb, length, take};
 ghost use Rattle.std.specs.Float.Ieee.{nan_bits, of_bits};
 ghost use Rattle.std.specs.Float.{binary64};
@@ -21,7 +23,7 @@ pub const MOST_BYTES: usize = 131072;
 pub const MOST_WORDS: usize = 1000;
 
 // A record without its bytes: the call, the room of the output, and the expected number and value.
-#[derive(Drop)]
+#[derive(Clone, Copy)]
 pub struct Record {
     pub call: u64,
     pub room: u64,
@@ -30,7 +32,7 @@ pub struct Record {
 }
 
 // What a call gave: the number, what comes with it, and whether these and the output are as a record expects.
-#[derive(Drop)]
+#[derive(Clone, Copy)]
 pub struct Given {
     pub number: u64,
     pub value: u64,

@@ -6,6 +6,8 @@
 // eight bytes.
 //
 // Internal: nothing here is a public entry.
+#![tactic(auto)]
+
 ghost use Rattle.std.specs.Prelude.{◌≡◌, ◌≤◌};
 ghost use Rattle.refusal.specs.Report.{answer};
 ghost use Rattle.card.specs.Entries.{read_fields};

@@ -7,13 +7,14 @@
 //
 // Internal: nothing here is a public entry. What the system's calls do is assumed, as in every program: of what is read contracts say
 // bounds alone, and of what is written nothing (D24).
+#![tactic(auto)]
 ghost use Rattle.std.specs.Prelude.{◌≡◌, true, ◌≤◌, length};
 ghost use Rattle.record_file.specs.Reading.{serves, AtMost, Whole};
 
 use record::Record;
 
 // The lengths of a record's bytes.
-#[derive(Drop)]
+#[derive(Clone, Copy)]
 pub struct Lengths {
     pub label: u64,
     pub card: u64,
@@ -22,7 +23,7 @@ pub struct Lengths {
 }
 
 // What stands next in the file.
-#[derive(Drop)]
+#[derive(Clone, Copy)]
 pub enum Next {
     Of(Record, Lengths),
     End,
@@ -30,7 +31,7 @@ pub enum Next {
 }
 
 // A number that stands next in the file; none where the file breaks off.
-#[derive(Drop)]
+#[derive(Clone, Copy)]
 enum Number {
     Of(u64),
     Missing,

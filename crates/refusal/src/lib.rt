@@ -2,12 +2,14 @@
 //
 // `refusal` of specs/ gives the number and the values of each case, and every contract above goes through it.
 // Internal: nothing here is a public entry.
+#![tactic(auto)]
+
 ghost use Rattle.std.specs.Prelude.{◌≡◌, ◌∷◌, [], ℕ};
 ghost use Rattle.refusal.specs.Report.{refusal, answer, number, values};
 
 // A case for each number of the table, in its order. None has 9: it was "pad longer than the coded data", is withdrawn, and is given to
 // nothing else.
-#[derive(Drop)]
+#[derive(Clone, Copy)]
 pub enum Refusal {
     // 1: the card is neither 11 nor 12 bytes; its length
     CardLength(usize),
@@ -32,7 +34,7 @@ pub enum Refusal {
 }
 
 // What an entry answers that writes into a lent buffer: how many elements it wrote, or why it wrote none.
-#[derive(Drop)]
+#[derive(Clone, Copy)]
 pub enum Answer {
     Done(usize),
     Refused(Refusal),

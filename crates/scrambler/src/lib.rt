@@ -1,6 +1,8 @@
 // The scrambler of a payload block: a register of ten stages, and the exclusive-or of its bits with the block.
 //
 // Internal: nothing here is a public entry. A function with a `requires` is called only where its caller has shown it.
+#![tactic(auto)]
+
 ghost use Rattle.std.specs.Prelude.{◌≡◌, ◌++◌, ◌≤◌, length, drop};
 ghost use Rattle.bits.specs.Bits.{pack};
 ghost use Rattle.bits.specs.Lists.{written};
@@ -8,18 +10,18 @@ ghost use Rattle.scrambler.specs.Scrambler.{feedback, shifted, after_shifts, scr
 ghost use Rattle.scrambler.specs.Loops.Following.{Following};
 
 // Ten stages: stage i is bit i - 1. A step ignores the bits above them.
-#[derive(Drop)]
+#[derive(Clone, Copy)]
 pub struct Register(pub u16);
 
 // A bit, and the register after it.
-#[derive(Drop)]
+#[derive(Clone, Copy)]
 pub struct Stepped {
     pub bit: u8,
     pub register: Register,
 }
 
 // Eight bits, the first the most significant, and the register after them.
-#[derive(Drop)]
+#[derive(Clone, Copy)]
 pub struct SteppedByte {
     pub byte: u8,
     pub register: Register,

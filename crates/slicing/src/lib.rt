@@ -2,6 +2,8 @@
 // a coordinate is lost. The threshold and the erasure width stand here.
 //
 // Public entries, none with a `requires`: slice, and slice_into, the same over lent memory. The rest is internal.
+#![tactic(auto)]
+
 ghost use Rattle.std.specs.Prelude.{◌≡◌, false, cond, ◌&&◌, ◌++◌, ◌≤◌, length, drop};
 ghost use Rattle.std.specs.Float.{inf};
 ghost use Rattle.std.specs.Float.Ieee.{lt, le};
@@ -24,14 +26,14 @@ const LOWER: f64 = 2.0 * QAM_FACTOR - QAM_ERASURE;
 const UPPER: f64 = 2.0 * QAM_FACTOR + QAM_ERASURE;
 
 // A received carrier, by paper 01's words: heard, with its I and Q coordinates, or lost.
-#[derive(Drop)]
+#[derive(Clone, Copy)]
 pub enum Received {
     Heard(f64, f64),
     Lost,
 }
 
 // The items of a carrier of BPSK, QPSK and 16QAM: 0, 1, or 2 where lost.
-#[derive(Drop)]
+#[derive(Clone, Copy)]
 pub enum Sliced {
     One(u8),
     Two(u8, u8),

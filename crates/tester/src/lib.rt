@@ -2,6 +2,8 @@
 //
 // A call returns the number of paper 01's table and always stores what comes with it behind `value`: the answer's second half, and no
 // lent buffer. Each promise goes through the same outcome definition as the entry below it.
+#![tactic(auto)]
+
 ghost use Rattle.std.specs.Prelude.{◌≡◌};
 ghost use Rattle.constellation.specs.Entries.{map_outcome};
 ghost use Rattle.slicing.specs.Entries.{received_of, slice_outcome};

@@ -1,6 +1,8 @@
 // Text in ASCII, made in a buffer from the front: words, digits and lines.
 //
 // Internal: nothing here is a public entry. `at` is where the text so far ends; each function returns where it ends then.
+#![tactic(auto)]
+
 ghost use Rattle.std.specs.Prelude.{◌≡◌, ◌+◌, ◌*◌, ◌/◌, ◌%◌, ◌^◌, ◌-◌, ◌<◌, ◌≤◌, length};
 ghost use Rattle.bits.specs.Lists.{tabulate, written};
 ghost use Rattle.text.specs.Text.{places, decimal, hex_digit, hex_at, line, appended};

@@ -2,6 +2,8 @@
 // interleaved, and puncturing.
 //
 // Internal: nothing here is a public entry. A function with a `requires` is called only where its caller has shown it.
+#![tactic(auto)]
+
 ghost use Rattle.std.specs.Prelude.{◌≡◌, ◌+◌, ◌*◌, ◌/◌, ◌<◌, ◌≤◌, eqb, length};
 ghost use Rattle.bits.specs.Bits.{bit_of, byte_of};
 ghost use Rattle.bits.specs.Lists.{written};

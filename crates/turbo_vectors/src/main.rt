@@ -1,5 +1,6 @@
 // Prints the kept parity bits of made blocks, a line for each kind, rate and some taps, to be compared with what the
 // reference finds for them.
+#![tactic(auto)]
 ghost use Rattle.std.specs.Prelude.{◌≡◌, ◌<◌, length};
 ghost use Rattle.card.specs.Modes.{block_bytes};
 

@@ -5,6 +5,7 @@
 // A record with a label is one of the cases that paper 01 wants run by a program: its line is the label, and the number and the value
 // that the call gave. Then there are the records and mismatches of each call and in all. A file that breaks off or has an unknown call
 // is read up to that record. Further lines number the records that differ, and one that could not be read, from 0 on.
+#![tactic(auto)]
 use record::Record;
 use record_file::{Lengths, Next};
 

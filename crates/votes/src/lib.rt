@@ -1,6 +1,8 @@
 // Votes: what two items and two counts say, and counters of votes. The definitions of copies, votes and damage are in specs.
 //
 // Internal: nothing here is a public entry, and callers show what a function requires.
+#![tactic(auto)]
+
 ghost use Rattle.std.specs.Prelude.{◌≡◌, ◌+◌, ◌≤◌, length, if◌then◌else◌, nat_eq};
 ghost use Rattle.votes.specs.Votes.{carries, majority as majority_of};
 ghost use Rattle.votes.specs.Loops.Counters.{after_item, Adds};

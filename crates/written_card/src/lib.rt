@@ -1,6 +1,8 @@
 // Writing a job card (paper 01's term) from its fields, and moving one from one version to the other.
 //
 // Public entries: `write_card` and `move_card`. Everything else is internal.
+#![tactic(auto)]
+
 ghost use Rattle.std.specs.Prelude.{◌≡◌, true, cond, not, ◌&&◌, ◌||◌, ◌+◌, ◌^◌, ◌<◌, ◌≤◌, eqb, ltb, length};
 ghost use Rattle.bits.specs.Lists.{written};
 ghost use Rattle.refusal.specs.declared.Refusal.TheVariants.{CardLength, Version};
