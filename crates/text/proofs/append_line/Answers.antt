@@ -1,0 +1,37 @@
+-- `text::append_line` meets its contract: four texts, one behind the other. Assumes nothing.
+use native.Mathlib.Omega.{arith}
+use Rattle.text.proofs.TextLaws.{appended-line, length-line}
+use Rattle.text.proofs.append_line.Goals as goal
+
+pub append-named-requires : goal.append-named-requires
+append-named-requires c =
+    let a = c.args in
+    omega (arith, length-line a.name.now a.value.now)
+
+pub append-spaced-requires : goal.append-spaced-requires
+append-spaced-requires c =
+    let a = c.args in
+    omega (arith, length-line a.name.now a.value.now)
+
+pub append-valued-requires : goal.append-valued-requires
+append-valued-requires c =
+    let a = c.args in
+    omega (arith, length-line a.name.now a.value.now)
+
+pub append-requires : goal.append-requires
+append-requires c =
+    let a = c.args in
+    omega (arith, length-line a.name.now a.value.now)
+
+pub returns : goal.returns
+returns c =
+    let three = c.append-valued in
+    let two = c.append-spaced in
+    let one = c.append-named in
+    let a = c.args in
+    let long = length-line a.name.now a.value.now in
+    record {
+      end = omega arith;
+      text = appended-line _ _ _ _ _ _ _ _ _ a.name.now a.value.now one.ensures.1 one.ensures.0 two.ensures.1 two.ensures.0 three.ensures.1
+          three.ensures.0 c.append.ensures.text c.requires;
+    }
