@@ -1,7 +1,6 @@
 -- Text in ASCII: words, digits, lines, and a text that grows in a buffer. Assumes nothing.
 use Rattle.std.specs.Prelude.{cond, List, [], ◌∷◌, ◌++◌, ℕ, suc, ◌+◌, ◌-◌, ◌/◌, ◌%◌, ◌^◌, eqb, ltb, length, get_or, take, drop}
 use Prim.Native.Char.{code}
-use Prim.Native.String
 use Prim.Native.String.{String}
 use Rattle.bits.specs.Bits.{bit_at}
 use Rattle.bits.specs.Lists.{tabulate, lowest}

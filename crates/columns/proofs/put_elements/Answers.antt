@@ -1,6 +1,5 @@
 -- `columns::put_elements` meets its contract. The invariant: the first r rows are written. Assumes nothing.
 use mathlib.Core.Path.{refl, ap, ◌∙◌}
-use Prim.Native.Nat.{◌-◌}
 use native.Mathlib.Omega.{arith}
 use lib.ListN.{length}
 use Rattle.bits.proofs.ListLaws.{written_none, written_all}

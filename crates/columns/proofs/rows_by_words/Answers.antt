@@ -1,6 +1,6 @@
 -- `columns::rows_by_words` meets its contract. The invariant: eight rows for each of the first i bytes are written. Assumes nothing.
 use mathlib.Core.Path.{refl}
-use Prim.Native.Nat.{◌-◌, ◌*◌}
+use Prim.Native.Nat.{◌*◌}
 use native.Mathlib.Omega.{arith}
 use lib.ListN.{length-take, length-drop}
 use Rattle.bits.specs.Bits.{bit_of}

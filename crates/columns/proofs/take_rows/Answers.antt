@@ -1,6 +1,6 @@
 -- `columns::take_rows` meets its contract. The invariant: each byte is packed from the first j rows. Assumes nothing.
 use mathlib.Core.Path.{◌≡◌, ap, ◌∙◌}
-use Prim.Native.Nat.{ℕ, ◌+◌, ◌-◌, ◌<◌}
+use Prim.Native.Nat.{ℕ, ◌+◌, ◌<◌}
 use native.Mathlib.Omega.{arith}
 use Rattle.bits.specs.Bits.{pack}
 use Rattle.bits.specs.Loops.Words.{word_byte}

@@ -1,7 +1,6 @@
 -- `scrambler::step_bytes` meets its contract. The invariant: the first i bytes are written, and the register has given their
 -- bits. Assumes nothing.
 use mathlib.Core.Path.{refl, ◌∙◌}
-use Prim.Native.Nat.{◌-◌}
 use native.Mathlib.Omega.{arith}
 use lib.ListN.{length-set}
 use Rattle.bits.proofs.ListLaws.{written_none, written_next, written_all}

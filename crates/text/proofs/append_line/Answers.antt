@@ -25,13 +25,10 @@ append-requires c =
 
 pub returns : goal.returns
 returns c =
-    let three = c.append-valued in
-    let two = c.append-spaced in
-    let one = c.append-named in
     let a = c.args in
     let long = length-line a.name.now a.value.now in
     record {
       end = omega arith;
-      text = appended-line _ _ _ _ _ _ _ _ _ a.name.now a.value.now one.ensures.1 one.ensures.0 two.ensures.1 two.ensures.0 three.ensures.1
-          three.ensures.0 c.append.ensures.text c.requires;
+      text = appended-line _ _ _ _ _ _ _ _ _ a.name.now a.value.now c.append-named.ensures.text c.append-named.ensures.end c.append-spaced.ensures.text c.append-spaced.ensures.end c.append-valued.ensures.text
+          c.append-valued.ensures.end c.append.ensures.text c.requires;
     }

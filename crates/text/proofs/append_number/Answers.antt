@@ -12,15 +12,14 @@ overflow_sub-from c = omega (arith, (places-le c.args.n).1, c.places_of-from.ens
 pub append_line-requires : goal.append_line-requires
 append_line-requires c =
     let a = c.args in
-    let k = c.places_of-from in
-    let d = c.twenty_digits-digits in
-    let e = digits-part a.n k.result d.result d.ensures k.ensures in
-    omega (arith, length-line a.name.now (take (20 - (20 - k.result)) (drop (20 - k.result) d.result)), ap length e, length-decimal a.n, (places-le a.n).1)
+    let e = digits-part a.n c.places_of-from.result c.twenty_digits-digits.result c.twenty_digits-digits.ensures c.places_of-from.ensures in
+    omega (arith, length-line a.name.now (take (20 - (20 - c.places_of-from.result)) (drop (20 - c.places_of-from.result) c.twenty_digits-digits.result)), ap length e, length-decimal a.n, (places-le a.n).1)
 
 pub returns : goal.returns
 returns c =
     let a = c.args in
-    let k = c.places_of-from in
-    let d = c.twenty_digits-digits in
-    let e = digits-part a.n k.result d.result d.ensures k.ensures in
-    rw e at c.append_line.ensures
+    let e = digits-part a.n c.places_of-from.result c.twenty_digits-digits.result c.twenty_digits-digits.ensures c.places_of-from.ensures in
+    record {
+      end = rw e at (c.append_line.ensures.end);
+      text = rw e at (c.append_line.ensures.text);
+    }

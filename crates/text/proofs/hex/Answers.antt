@@ -1,6 +1,5 @@
 -- `text::hex` meets its contract. The invariant: the digits of the first k bytes are written. Assumes nothing.
 use mathlib.Core.Path.{refl}
-use Prim.Native.Nat.{◌-◌}
 use native.Mathlib.Omega.{arith}
 use lib.ListN.{length-set}
 use Rattle.bits.proofs.ListLaws.{written_none, written_all}

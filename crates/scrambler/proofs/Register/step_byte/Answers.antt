@@ -1,7 +1,7 @@
 -- `scrambler::Register::step_byte` meets its contract. The invariant: the first i bits are packed, and i shifts are done.
 -- Assumes nothing.
 use mathlib.Core.Path.{◌≡◌, refl, sym, ap, ◌∙◌}
-use Prim.Native.Nat.{◌-◌, ◌^◌, ◌<◌}
+use Prim.Native.Nat.{◌^◌, ◌<◌}
 use native.Mathlib.Omega.{arith}
 use lib.Pow.{pow_mono}
 use Rattle.bits.specs.Bits.{pack}
