@@ -94,6 +94,7 @@ still-legal false s h = omega arith
 
 marked : (c : Bool) (s : ℕ) → T c → cond c 2 s ≡ 2
 marked true s t = refl
+marked false s t = elim t [ ]
 
 one_of_two : (e e' : Bool) → (T e → T e' → ⊥) → ◌≡◌ {A = ℕ} (cond (e || e') 1 0) (cond e 1 0 + cond e' 1 0)
 one_of_two true true d = absurd (d tt tt)

@@ -1,6 +1,5 @@
 -- `card::copy_code` meets its contract. The invariant: the count stands at no code that was passed. Assumes nothing.
 use mathlib.Core.Path.{refl, sym}
-use Prim.Native.Nat.{◌-◌}
 use native.Mathlib.Omega.{arith}
 use borrow.Author.Count.{below_more}
 use Rattle.bits.proofs.ListLaws.{lowest-here, lowest-none}

@@ -4,7 +4,6 @@ use borrow.Author.Tests.{lt-ltb, le-ltb}
 use Rattle.card.specs.Entries.{card_read}
 use Rattle.card.proofs.FieldLaws.{fields-refused, fields_read}
 use Rattle.card.proofs.read_fields.Goals as goal
-use Rattle.card.proofs.read_fields.Goals.{Else-fields-lt10}
 
 pub returns-then-fields-lt10 : goal.returns-then-fields-lt10
 returns-then-fields-lt10 c =
@@ -31,6 +30,6 @@ returns-else-fields-lt10 c =
     let read = fields_read _ c.args.fields.now _ e in
     let room = le-ltb _ _ c.if-fields-lt10.false in
     record {
-      answer = simp room at (ap (λ (goal.at.returns-else-fields-lt10 c).Else-fields-lt10. c.report) (sym read));
-      fields = c.put_fields.ensures ∙ (simp room at (ap (λ (goal.at.returns-else-fields-lt10 c).Else-fields-lt10. c.out) (sym read)));
+      answer = simp room at (ap (λ o. o.report) (sym read));
+      fields = c.put_fields.ensures ∙ (simp room at (ap (λ o. o.out) (sym read)));
     }

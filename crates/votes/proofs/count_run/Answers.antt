@@ -1,5 +1,5 @@
 -- `votes::count_run` meets its contract. The invariant: the first i items are counted. Assumes nothing.
-use Rattle.std.proofs.Common.{◌+◌, ◌-◌, refl, arith, length-set, rules}
+use Rattle.std.proofs.Common.{◌+◌, refl, arith, length-set, rules}
 use Rattle.votes.specs.Votes.{carries}
 use Rattle.votes.proofs.CounterLaws.{adds_none, adds-more, adds-item, adds-all, carries_same}
 use Rattle.votes.proofs.count_run.Goals as goal
