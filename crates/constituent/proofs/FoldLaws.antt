@@ -15,7 +15,7 @@ use Rattle.bits.proofs.NumberLaws.{lt-cases}
 use Rattle.bits.proofs.RangeLaws.{agree}
 use Rattle.constituent.specs.declared.States.{States}
 use Rattle.constituent.specs.Pairs.{pair_at}
-use Rattle.constituent.specs.Encoder.{zero_input_step, next, state_at}
+use Rattle.constituent.specs.Encoder.{zero_input_step, state_at}
 use Rattle.constituent.specs.Loops.Passes.{state_by, Ended, SameEnd}
 use Rattle.constituent.proofs.StateLaws.{state-lt, state-ext}
 use Rattle.constituent.proofs.RingLaws.{steps, steps-lt, idle, state-plus}
