@@ -1,0 +1,13 @@
+-- `interleaver::interleave` meets its contract. Assumes nothing.
+use mathlib.Core.Path.{◌∙◌}
+use lib.ListN.{get_or}
+use Rattle.interleaver_shape.specs.Shapes.{coded_bits}
+use Rattle.interleaver.specs.Loops.RowOrder.{row_place}
+use Rattle.bits.proofs.StoreLaws.{stored-written}
+use Rattle.interleaver.proofs.interleave.Goals as goal
+
+pub returns : goal.returns
+returns c =
+    c.move_bits.ensures
+    ∙ stored-written (coded_bits c.args.kind c.args.rate) (λ i. get_or c.args.rows.now (row_place c.args.kind c.args.rate i) 0)
+    c.args.out.now c.requires.2
