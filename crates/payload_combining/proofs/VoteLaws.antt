@@ -13,7 +13,7 @@ use Rattle.bits.specs.Lists.{tabulate, written}
 use Rattle.bits.proofs.NumberLaws.{row_next}
 use Rattle.bits.proofs.ListLaws.{length-tabulate, get_or-tabulate, tabulate-ext, written-ext}
 use Rattle.bits.proofs.SumLaws.{count_none}
-use Rattle.votes.specs.Votes.{carries as carries_on, copies, votes, majority, decided}
+use Rattle.votes.specs.Votes.{carries as carries_on, votes, majority, decided}
 use Rattle.votes.specs.Loops.Counters.{middle, counted, Adds}
 use Rattle.votes.proofs.VoteLaws.{votes-le, votes-append}
 use Rattle.votes.proofs.CounterLaws.{adds-more, counted-long, counted-more, middle-counted, counter-decides}
