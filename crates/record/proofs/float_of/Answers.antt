@@ -4,11 +4,9 @@ use mathlib.Core.Path.{◌≡◌, sym, subst, ◌∙◌}
 use Prim.Native.Nat.{ℕ, zero, suc, ◌/◌, ◌%◌}
 use lib.Dec.{T, eqb, leb}
 use lib.Ieee.{nan, of_fields, of_bits, nan_bits, div, top, hid, binary64}
-use borrow.Author.Rules.{rules}
 use borrow.Author.Tests.{not-true}
 use Rattle.bits.proofs.BoolLaws.{both}
-use Rattle.record.proofs.float_of.Statement.{statement}
-use Rattle.record.proofs.float_of.Tie as tie
+use Rattle.record.proofs.float_of.Goals as goal
 
 -- the fields of a NaN's bits
 nan-field : (s : Bool) (x t : ℕ) → (eqb x 2047 && not (eqb t 0)) ≡ true → of_fields binary64 s x t ≡ nan
@@ -23,17 +21,8 @@ nan-of : (bits : ℕ) → nan_bits binary64 bits ≡ true → of_bits binary64 b
 unfolding of_bits nan_bits div
 nan-of bits e = nan-field (leb (top binary64) bits) (bits % top binary64 / hid binary64) (bits % hid binary64) e
 
-is-nan-requires : tie.Need-is-nan-requires
-is-nan-requires c κs = search rules
+pub float_from_bits-result : goal.float_from_bits-result
+float_from_bits-result c = subst (λ (b : Bool). T (not b)) (sym c.if-is_nan.false ∙ c.is_nan.ensures) tt
 
-float-from-bits-result : tie.Need-float-from-bits-result
-float-from-bits-result c = subst (λ (b : Bool). T (not b)) (sym c.if1.false ∙ c.before.is_nan.ensures) tt
-
-returns : tie.Need-returns
-returns c = sym (nan-of _ (sym c.before.is_nan.ensures ∙ c.if1.true))
-
-returns-2 : tie.Need-returns-2
-returns-2 c = search rules
-
-pub float-of-spec : {M : Type 1} → statement M
-float-of-spec = tie.close (tie.spec is-nan-requires float-from-bits-result returns returns-2)
+pub returns-then-is_nan : goal.returns-then-is_nan
+returns-then-is_nan c = sym (nan-of _ (sym c.is_nan.ensures ∙ c.if-is_nan.true))

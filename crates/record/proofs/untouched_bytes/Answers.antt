@@ -3,12 +3,8 @@ use mathlib.Core.Path.{refl}
 use Prim.Native.Nat.{ℕ}
 use Rattle.record.specs.Expected.{most, most_bytes}
 use Rattle.record.proofs.ExpectedLaws.{length_most}
-use Rattle.record.proofs.untouched_bytes.Statement.{statement}
-use Rattle.record.proofs.untouched_bytes.Tie as tie
+use Rattle.record.proofs.untouched_bytes.Goals as goal
 
-returns : tie.Need-returns
+pub returns : goal.returns
 unfolding most
 returns c = (refl, length_most {A = ℕ} most_bytes 165)
-
-pub untouched-bytes-spec : {M : Type 1} → statement M
-untouched-bytes-spec = tie.close (tie.spec returns)
