@@ -3,7 +3,7 @@
 set -eu
 cd "$(dirname "$0")/.."
 tests/library.sh
-library=target/staticlib/libtester.a
+library=crates/tester/out/libtester.a
 work=$(mktemp -d)
 trap 'rm -rf "$work"' EXIT
 strict=(-Wall -Wextra -Wpedantic -Wconversion -Werror -Iinclude)

@@ -5,7 +5,7 @@ cd "$(dirname "$0")/.."
 tests/library.sh
 work=$(mktemp -d)
 trap 'rm -rf "$work"' EXIT
-gcc -O2 -std=c99 -Wall -Wextra -Wpedantic -Werror -Iinclude tests/copies.c target/staticlib/libtester.a -o "$work/copies"
+gcc -O2 -std=c99 -Wall -Wextra -Wpedantic -Werror -Iinclude tests/copies.c crates/tester/out/libtester.a -o "$work/copies"
 
 # A row: band, modulation, kind, rate and copies; used, bits of a group, pad, shifts, symbols, items and F.
 awk -F ' *[|] *' '

@@ -17,7 +17,7 @@ same() {
 picture=$(awk '
   /^## / { on = $0 == "## The picture"; next }
   on && /^ +[0-9]+ / { for (k = 2; k <= NF; k++) print $k, $1 }' docs/FLOORS.md | sort)
-listed=$(sed -nE 's/^([a-z_]+):.*/\1/p' crates.txt | sort)
+listed=$(sed -nE 's/^([a-z_]+)( [a-z_0-9= ]+)?:.*/\1/p' crates.txt | sort)
 tabled=$(sed -nE '/^\| `/ s/^\| ([^|]*) \|.*/\1/p' docs/FLOORS.md | tr -d '`,' | tr ' ' '\n' | sort)
 same 'crates.txt and the picture' "$listed" "$(cut -d ' ' -f 1 <<< "$picture")"
 same 'crates.txt and the table' "$listed" "$tabled"
@@ -27,13 +27,15 @@ while read -r crate number; do
   floor[$crate]=$number
 done <<< "$picture"
 while IFS=: read -r crate uses; do
+  # What a line says of a crate's kind stands behind its name.
+  crate=${crate%% *}
   for used in $uses; do
     if [ -n "${floor[$used]-}" ] && [ "${floor[$used]}" -ge "${floor[$crate]-0}" ]; then
       printf '%s uses %s, which is not below it\n' "$crate" "$used"
       bad=1
     fi
     # A library that is listed and nowhere named is not used.
-    if [ -d "crates/$used" ] && ! grep -rqE "\b$used::|Rattle·$used\." "crates/$crate"; then
+    if [ -d "crates/$used" ] && ! grep -rqE --exclude-dir=out "\b$used::|Rattle\.$used\." "crates/$crate"; then
       printf '%s lists %s and does not use it\n' "$crate" "$used"
       bad=1
     fi

@@ -1,11 +1,17 @@
 #!/usr/bin/env bash
 # The programs `encode`, `decode` and `print_card` write what the same programs over the reference write: in every mode, on every band with
-# every copy count in three modes, on bad files and on refused cards, each with a stack of 512 KB. They are taken from target/bin, where
-# `rt check` or `rt ci` put them.
+# every copy count in three modes, on bad files and on refused cards, each with a stack of 512 KB. They are taken from crates/NAME/out, where
+# `rt ci` or `rt run` put them.
 set -eu
 cd "$(dirname "$0")/.."
+for program in encode decode print_card; do
+  if ! [ -x "crates/$program/out/$program" ]; then
+    printf '%s is not built: rt ci does, and rt run in crates/%s\n' "$program" "$program" >&2
+    exit 1
+  fi
+done
 cargo build --quiet --release --offline --manifest-path reference/Cargo.toml
-core=$PWD/target/bin
+core=$PWD/crates
 reference=$PWD/reference/target/release/job
 work=$(mktemp -d)
 trap 'rm -rf "$work"' EXIT
@@ -30,7 +36,7 @@ second=$((3 << 20))
 core() {
   local program=$1
   shift
-  (ulimit -S -s 512 && "$core/$program" "$@") 2> told
+  (ulimit -S -s 512 && "$core/$program/out/$program" "$@") 2> told
 }
 
 # same PROGRAM ARGUMENT..: what both write on standard output goes to `written`. Of the file `huge` the programs take the start, `taken`,

@@ -6,7 +6,7 @@ set -eu
 cd "$(dirname "$0")/.."
 library() {
   tests/library.sh
-  export HPLC_LIB_DIR=$PWD/target/staticlib
+  export HPLC_LIB_DIR=$PWD/crates/tester/out
   reference build --features core
 }
 reference() { cargo "$@" --quiet --release --offline --manifest-path reference/Cargo.toml; }
@@ -36,7 +36,7 @@ case ${1-} in
     ;;
   bench)
     library 2> /dev/null
-    printf 'core: rt staticlib tester, %s\n' "$(rt version)"
+    printf 'core: rt lib in crates/tester, %s\n' "$(rt version)"
     reference/target/release/bench --repetitions "${REPETITIONS-300}"
     ;;
   *)

@@ -93,8 +93,8 @@ same 'the enum Refusal' "$refusals" "$(enum)"
 same 'number_of' "$(paste -d ' ' <(cases) <(printf '%s\n' "$numbers"))" "$(arms number_of)"
 same 'value_of' "$(paste -d ' ' <(cases) <(cut -d ' ' -f 2 <<< "$zero"))" "$(arms value_of)"
 same 'refusal of Report.antt' "$(paste -d ' ' <(cases) <(printf '%s\n' "$zero"))" "$(clauses)"
-order=$(sed -nE 's/^rowOrder = (.*) ∷ \[\]$/\1/p' crates/refusal/specs/Outcome.antt)
-same 'rowOrder of Outcome.antt' "$numbers" "${order// ∷ /$'\n'}"
+order=$(sed -nE 's/^row_order = (.*) ∷ \[\]$/\1/p' crates/refusal/specs/Outcome.antt)
+same 'row_order of Outcome.antt' "$numbers" "${order// ∷ /$'\n'}"
 same 'docs/DECISIONS.md, D9' "${numbers//$'\n'/, }" "$(awk '/^## D9\./ { on = 1; next } on && NF { sub(/, as the table.*/, ""); print; exit }' docs/DECISIONS.md)"
 same 'the numbers of the reference' "0"$'\n'"$numbers" "$(reference)"
 # The reference names a number where it refuses: with 0 exactly where nothing comes.

@@ -90,7 +90,7 @@ same() {
   fi
 }
 
-matrices=$(sed -nE 's/^matrix kind = getD \((.*) ∷ \[\]\) kind \[\]$/\1/p' crates/constituent/specs/*.antt)
+matrices=$(sed -nE 's/^matrix kind = [a-z_]+ \((.*) ∷ \[\]\) kind \[\]$/\1/p' crates/constituent/specs/*.antt)
 read -ra matrix <<< "${matrices//∷/}"
 read -ra offset <<< "$(numbers interleaver_shape offsets)"
 read -ra step <<< "$(numbers interleaver_shape steps)"
@@ -107,17 +107,17 @@ for bytes in 16 72 136 264 520; do
 done
 same 'offset at 16/18' "$(row '| 520 | 16/18 |' 4)" "${offset[5]}"
 same 'step at 16/18' "$(row '| 520 | 16/18 |' 5)" "${step[5]}"
-pattern=$(sed -nE 's/^pattern rate = getD \(0b1{16} ∷ 0b([01]{16}) ∷ \[\]\) rate 0$/\1/p' crates/turbo/specs/Puncture.antt)
-times=$(sed -nE 's/^pub kept-at : .*eqb .t % 16. ([0-9]+) .. eqb .t % 16. ([0-9]+)\)$/\1 or \2/p' crates/turbo/proofs/PunctureLaws.antt)
+pattern=$(sed -nE 's/^pattern rate = [a-z_]+ \(0b1{16} ∷ 0b([01]{16}) ∷ \[\]\) rate( 0)?$/\1/p' crates/turbo/specs/Puncture.antt)
+times=$(sed -nE 's/^pub kept_at : .*t % 16[^0-9]+([0-9]+)[^0-9]+t % 16[^0-9]+([0-9]+)\)$/\1 or \2/p' crates/turbo/proofs/PunctureLaws.antt)
 same 'the puncturing row of docs/RULES.md' "$(found docs/RULES.md 'at the ones of ([01]+) read from the right,')" "$pattern"
 same 'the kept times of docs/RULES.md' "$(found docs/RULES.md 'so t mod 16 is ([0-9]+ or [0-9]+) \(D7\)')" "$times"
 same 'the kept bits of docs/RULES.md' "$(found docs/RULES.md '\(D7\); ([0-9]+) parity bits remain')" \
-  "$(sed -n 's/^pub remain : keptCount 4 1 ≡ //p' crates/turbo/proofs/PunctureLaws.antt)"
-read -ra first <<< "$(numbers bands 'firstSubCarrier band')"
-read -ra last <<< "$(numbers bands 'lastSubCarrier band')"
+  "$(sed -n 's/^pub remain : kept_count 4 1 ≡ //p' crates/turbo/proofs/PunctureLaws.antt)"
+read -ra first <<< "$(numbers bands 'first_sub_carrier band')"
+read -ra last <<< "$(numbers bands 'last_sub_carrier band')"
 read -ra symbols <<< "$(numbers bands 'symbols band')"
-read -ra fewest <<< "$(numbers diversity 'bandFewest band')"
-read -ra most <<< "$(numbers diversity 'bandMost band')"
+read -ra fewest <<< "$(numbers diversity 'band_fewest band')"
+read -ra most <<< "$(numbers diversity 'band_most band')"
 bands=
 limits=
 spans=()
@@ -128,7 +128,7 @@ for band in "${!first[@]}"; do
   bands+="| $band | ${first[band]} | ${last[band]} | $carriers | ${symbols[band]} | $items | ${fewest[band]} | ${most[band]} |"$'\n'
   limits+="| $band | ${first[band]} to ${last[band]} | ${symbols[band]} | ${fewest[band]} to ${most[band]} | ${fewest[band]} |"$'\n'
   spans+=("${first[band]} to ${last[band]}")
-  for bits in $(numbers card 'carrierBits modulation'); do
+  for bits in $(numbers card 'carrier_bits modulation'); do
     lengths+=($((carriers * bits)))
   done
   same "HPLC_FC_ITEMS_BAND_$band" "$(sed -n "s/^#define HPLC_FC_ITEMS_BAND_$band //p" include/hplc.h)" "$items"
@@ -137,19 +137,19 @@ same 'the bands of docs/RULES.md' "$(rows_of docs/RULES.md Band)"$'\n' "$bands"
 same 'the bands of docs/CLASS.md' "$(rows_of docs/CLASS.md Band)"$'\n' "$limits"
 same 'the sub-carriers of include/hplc.h' "$(found include/hplc.h 'Bands 0 to 3 are sub-carriers ([^.]+)\.')" "$(listed "${spans[@]}")"
 same 'the limits of include/hplc.h' "$(found include/hplc.h "below the band's limit, ([^.]+) on bands 0 to 3,")" "$(listed "${fewest[@]}")"
-coded=("$(sed -n 's/^pub coded-high : codedBits 4 1 ≡ //p' crates/interleaver_shape/proofs/ShapeLaws.antt)")
-for bytes in $(numbers card 'blockBytes kind' | cut -d ' ' -f 2-); do
+coded=("$(sed -n 's/^pub coded-high : coded_bits 4 1 ≡ //p' crates/interleaver_shape/proofs/ShapeLaws.antt)")
+for bytes in $(numbers card 'block_bytes kind' | cut -d ' ' -f 2-); do
   coded+=($((16 * bytes)))
 done
 same 'the nearest pad of docs/RULES.md' "$(found docs/RULES.md 'comes nearest to them is ([0-9,]+ of [0-9,]+),' | tr -d ,)" \
   "$(nearest "${lengths[*]}" "${coded[*]}")"
 offsets=$(found docs/RULES.md 'The offsets are ([0-9, ]+), on band 0 ')
-same "the symbols' offsets" "${offsets//,/}" "$(numbers bands symbolOffsets)"
-power=$(($(number slicing 'erasureFraction = fin false 1 \(negsuc ') + 1))
-qpsk=$(hex "$(number constellation 'qpskNumerator = ')" $((53 + power)))
-qam=$(hex "$(number constellation 'qamNumerator = ')" $((54 + power)))
-low=$(number slicing 'lowNumerator = ')
-high=$(number slicing 'highNumerator = ')
+same "the symbols' offsets" "${offsets//,/}" "$(numbers bands symbol_offsets)"
+power=$(($(number slicing 'erasure_fraction = fin false 1 \(negsuc ') + 1))
+qpsk=$(hex "$(number constellation 'qpsk_numerator = ')" $((53 + power)))
+qam=$(hex "$(number constellation 'qam_numerator = ')" $((54 + power)))
+low=$(number slicing 'low_numerator = ')
+high=$(number slicing 'high_numerator = ')
 same 'the part of f in docs/RULES.md' "$(found docs/RULES.md 'whose size is at most f\/([0-9]+)\.')" $((1 << power))
 same 'the ends in docs/RULES.md' "$(found docs/RULES.md 'rounded once: ([^ ]+ to [^ ]+) \(D14\)')" "$low/2^53 to $high/2^53"
 same 'the part of f in include/hplc.h' "$(found include/hplc.h 'at most f\/8: ([^ ]+ for BPSK, [^ ]+ for QPSK and [^ ]+ for 16QAM)\.')" \
@@ -159,10 +159,10 @@ read -ra bits <<< "$(fields 'Version 1 has eleven bytes: ([^.]+)\.')"
 read -ra between <<< "$(fields 'between spare and serial holds ([^.]+)\.')"
 same 'the bits of a card in docs/RULES.md' "${bits[*]:0:7} 12 ${between[*]} ${bits[7]} 0 0 0 ${bits[7]}" \
   "$(sed -n 's/^widths bytes = //p' crates/card/specs/Card.antt | tr -cs '0-9' ' ' | xargs)"
-read -ra copies <<< "$(numbers card copyCounts)"
+read -ra copies <<< "$(numbers card copy_counts)"
 same 'the copy codes in docs/RULES.md' "$(found docs/RULES.md 'copy codes 0 to 5 are ([0-9, ]+ and [0-9]+) copies')" "$(listed "${copies[@]}")"
-read -ra all <<< "$(numbers payload_layout interNum)"
-read -ra per_group <<< "$(numbers payload_layout interNumPerGroup)"
+read -ra all <<< "$(numbers payload_layout inter_num)"
+read -ra per_group <<< "$(numbers payload_layout inter_num_per_group)"
 interleavers=
 pads=0
 of=1
@@ -170,7 +170,7 @@ longest=0
 for code in "${!copies[@]}"; do
   interleavers+="| ${copies[code]} | ${all[code]} | ${per_group[code]} |"$'\n'
   for band in "${!first[@]}"; do
-    for bits in $(numbers card 'carrierBits modulation'); do
+    for bits in $(numbers card 'carrier_bits modulation'); do
       for data in "${coded[@]}"; do
         read -r pad items <<< "$(copied $((last[band] - first[band] + 1)) "$bits" "$data" "$code")"
         if [ $((copies[code] * pad * of)) -gt $((pads * data)) ]; then
@@ -185,14 +185,14 @@ done
 same 'Table 13 in docs/RULES.md' "$(rows_of docs/RULES.md Copies)"$'\n' "$interleavers"
 same 'the most pads of docs/RULES.md' "$(found docs/RULES.md 'defined mode, at most ([0-9,]+ of [0-9,]+) \(' | tr -d ,)" "$pads of $of"
 same 'the longest list of docs/RULES.md' "$(found docs/RULES.md 'The longest list has ([0-9,]+) items' | tr -d ,)" "$longest"
-same 'mostItems' "$(number payload_layout 'mostItems = ')" "$longest"
+same 'most_items' "$(number payload_layout 'most_items = ')" "$longest"
 interleavers=$(sed -nE 's/^\| InterNum(PerGroup)? \| ([0-9, ]+) \(.*/\2/p' docs/DECISIONS.md | tr -d ,)
 same 'Table 13 in docs/DECISIONS.md' "$interleavers" "${all[*]}"$'\n'"${per_group[*]}"
 same 'the unused carriers of docs/DECISIONS.md' "$(found docs/DECISIONS.md 'Their numbers on bands 0 to 3: ([^.]+)\.')" \
   "$(unused 1) with ${copies[1]} or ${copies[2]} copies; $(unused 3) with ${copies[3]}; $(unused 4) with ${copies[4]}; $(unused 5) with ${copies[5]}"
 same 'HPLC_PAYLOAD_ITEMS_MAX' "$(sed -n 's/^#define HPLC_PAYLOAD_ITEMS_MAX //p' include/hplc.h)" "$longest"
 same 'the lengths of a card in include/hplc.h' "$(sed -nE 's/^#define HPLC_CARD_(2_)?BYTES //p' include/hplc.h | xargs)" \
-  "$(sed -nE 's/^cardBytes version = cond \(eqb version 2\) ([0-9]+) ([0-9]+)$/\2 \1/p' crates/card/specs/Card.antt)"
+  "$(sed -nE 's/^card_bytes version = cond \([^()]*\) ([0-9]+) ([0-9]+)$/\2 \1/p' crates/card/specs/Card.antt)"
 same 'HPLC_CARD_TEXT_MAX' "$(sed -n 's/^#define HPLC_CARD_TEXT_MAX //p' include/hplc.h)" "$(number printed_card 'longest = ')"
 requests=(docs/changes/T-*.md)
 requests=("${requests[@]##*/}")

@@ -6,6 +6,6 @@ cd "$(dirname "$0")/.."
 tests/library.sh
 work=$(mktemp -d)
 trap 'rm -rf "$work"' EXIT
-gcc -std=c99 -D_XOPEN_SOURCE=600 -Wall -Wextra -Wpedantic -Werror -Wl,-z,now -Iinclude tests/stack.c target/staticlib/libtester.a \
+gcc -std=c99 -D_XOPEN_SOURCE=600 -Wall -Wextra -Wpedantic -Werror -Wl,-z,now -Iinclude tests/stack.c crates/tester/out/libtester.a \
   -o "$work/stack"
 "$work/stack"

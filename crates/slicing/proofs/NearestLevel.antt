@@ -5,7 +5,7 @@ use native.Mathlib.Nat.{mul-pos}
 use mathlib.Core.Path.{◌≡◌, refl, sym, subst, ◌∙◌}
 use mathlib.Core.Bool.{Bool, true, false, cond}
 use borrow.Author.Tests.{ltb-true, not-false}
-use lib.Dec.{eqb, lit<}
+use lib.Dec.{lit<}
 use lib.IntN.{ℤ}
 use lib.Ieee.{Float, nan, inf, fin, up, down, add, sub, mul, lt, le}
 use lib.Ieee.Fits.{up_pos, down_pos}

@@ -1,0 +1,12 @@
+-- `record::is_nan` meets its contract. Assumes nothing.
+use lib.Ieee.{nan_bits}
+use borrow.Author.Tests.{eq-eqb, ne_eqb}
+use Rattle.record.proofs.is_nan.Goals as goal
+
+pub returns-then-bits-ne2047 : goal.returns-then-bits-ne2047
+unfolding nan_bits
+returns-then-bits-ne2047 c = simp (ne_eqb _ _ c.if-bits-ne2047.true)
+
+pub returns : goal.returns
+unfolding nan_bits
+returns c = simp (eq-eqb _ _ c.if-bits-ne2047.false)
