@@ -80,7 +80,7 @@ module _ (c : Card) (S : Served 1 4 c) where
   is-defined = (defined-card c S.mode).0
 
   pub layout-within : (block_layout c).copies * (block_layout c).pad ≤ coded_bits c.kind c.rate
-  layout-within = mode-pads c.band c.kind c.rate c.modulation c.copies is-defined S.from_First S.copies
+  layout-within = mode-pads c.band c.kind c.rate c.modulation c.copies is-defined S.from_first S.copies
 
   -- all that the loops ask of the layout
   pub layout-served : Laid (block_layout c)
@@ -89,4 +89,4 @@ module _ (c : Card) (S : Served 1 4 c) where
       (coded-some c.kind c.rate S.kinds) (omega (arith, coded-le c.kind c.rate S.kinds)) layout-within
 
   pub layout-items : items (block_layout c) ≤ most_items
-  layout-items = mode-items c.band c.kind c.rate c.modulation c.copies is-defined S.from_First S.copies
+  layout-items = mode-items c.band c.kind c.rate c.modulation c.copies is-defined S.from_first S.copies

@@ -1,0 +1,79 @@
+-- `payload::read_items` meets its contract: the bits are decided, recovered and descrambled, or refused. Assumes nothing.
+use mathlib.Core.Path.{◌≡◌, sym, ap, ◌∙◌}
+use mathlib.Core.List.{List}
+use Prim.Native.Nat.{ℕ}
+use native.Mathlib.Omega.{arith}
+use lib.ListN.{replicate}
+use Rattle.refusal.specs.Report.{answer, done}
+use Rattle.refusal.specs.Outcome.{Outcome}
+use Rattle.fec.proofs.CodingLaws.{few_bytes}
+use Rattle.recovery.specs.Recovery.{recovered}
+use Rattle.payload.specs.Entries.{decided_bit}
+use Rattle.payload.proofs.EntryLaws.{block_refused}
+use Rattle.payload.proofs.BufferLaws.{part_room, part_length, coded-fits, decided-recovered, block_size, block-length, block_room, block-report, block_out}
+use Rattle.payload.proofs.read_items.Goals as goal
+use Rattle.payload.proofs.read_items.Goals.{After-recover, In-Done}
+
+-- what is recovered from the array is what is recovered from the decided bits
+recovered-is : (c : After-recover)
+    → (answer c.recover.result ≡ (recovered c.args.kind c.args.rate c.args.taps (decided_bit c.args.l c.args.items.now) (replicate 520 0)).report)
+    × (c.recover.new.out ≡ (recovered c.args.kind c.args.rate c.args.taps (decided_bit c.args.l c.args.items.now) (replicate 520 0)).out)
+recovered-is c =
+    let law = decided-recovered c.args.l c.args.kind c.args.rate c.args.taps c.requires.0 c.args.items.now _ _ (replicate 520 0) c.decide.ensures in
+    (c.recover.ensures.answer ∙ ap (λ (q : Outcome ℕ (List ℕ)). q.report) law, c.recover.ensures.bytes ∙ ap (λ (q : Outcome ℕ (List ℕ)). q.out) law)
+
+-- what is recovered from the array is what is recovered from the decided bits
+recovered-is-at-In-Done : (c : In-Done)
+    → (answer c.recover.result ≡ (recovered c.args.kind c.args.rate c.args.taps (decided_bit c.args.l c.args.items.now) (replicate 520 0)).report)
+    × (c.recover.new.out ≡ (recovered c.args.kind c.args.rate c.args.taps (decided_bit c.args.l c.args.items.now) (replicate 520 0)).out)
+recovered-is-at-In-Done c =
+    let law = decided-recovered c.args.l c.args.kind c.args.rate c.args.taps c.requires.0 c.args.items.now _ _ (replicate 520 0) c.decide.ensures in
+    (c.recover.ensures.answer ∙ ap (λ (q : Outcome ℕ (List ℕ)). q.report) law, c.recover.ensures.bytes ∙ ap (λ (q : Outcome ℕ (List ℕ)). q.out) law)
+
+done-is : (c : In-Done)
+    → (recovered c.args.kind c.args.rate c.args.taps (decided_bit c.args.l c.args.items.now) (replicate 520 0)).report ≡ done c.in-Done.size
+done-is c = sym (recovered-is-at-In-Done c).0 ∙ ap answer c.in-Done.is
+
+pub decide-requires : goal.decide-requires
+decide-requires c =
+    (c.requires.0.laid, c.requires.1, coded-fits c.args.l c.args.kind c.args.rate c.args.taps c.requires.0)
+
+pub slice_bounds-decided-end : goal.slice_bounds-decided-end
+slice_bounds-decided-end c =
+    part_room _ _ _ _ c.decide.ensures
+
+pub slice_bounds-recover-end : goal.slice_bounds-recover-end
+slice_bounds-recover-end c =
+    sym (part_length _ _ _ _ c.decide.ensures)
+
+pub recover-requires : goal.recover-requires
+recover-requires c =
+    (c.requires.0.defined, part_length _ _ _ _ c.decide.ensures ∙ c.requires.0.count, omega (arith, few_bytes c.args.kind c.requires.0.defined.kind-lt))
+
+pub slice_bounds-block-end : goal.slice_bounds-block-end
+slice_bounds-block-end c =
+    block_room c.args.kind c.args.rate c.args.taps c.requires.0.defined (decided_bit c.args.l c.args.items.now) (replicate 520 0) _ c.in-Done.size (done-is (goal.at.slice_bounds-block-end c).In-Done) (recovered-is (goal.at.slice_bounds-block-end c).After-recover).1
+
+pub slice_bounds-scramble-end : goal.slice_bounds-scramble-end
+slice_bounds-scramble-end c =
+    sym (block-length c.args.kind c.args.rate c.args.taps c.requires.0.defined (decided_bit c.args.l c.args.items.now) (replicate 520 0) _ c.in-Done.size (done-is (goal.at.slice_bounds-scramble-end c).In-Done) (recovered-is (goal.at.slice_bounds-scramble-end c).After-recover).1)
+
+pub scramble-requires : goal.scramble-requires
+scramble-requires c =
+    omega (arith, block-length c.args.kind c.args.rate c.args.taps c.requires.0.defined (decided_bit c.args.l c.args.items.now) (replicate 520 0) _ c.in-Done.size (done-is (goal.at.scramble-requires c).In-Done) (recovered-is (goal.at.scramble-requires c).After-recover).1, block_size c.args.kind c.args.rate c.args.taps c.requires.0.defined (decided_bit c.args.l c.args.items.now) (replicate 520 0) _ c.in-Done.size (done-is (goal.at.scramble-requires c).In-Done) (recovered-is (goal.at.scramble-requires c).After-recover).1, c.requires.2)
+
+pub returns-in-Refused : goal.returns-in-Refused
+returns-in-Refused c =
+    let e = sym (recovered-is (goal.at.returns-in-Refused c).After-recover).0 ∙ ap answer c.in-Refused.is in
+    let law = sym (block_refused c.args.kind c.args.rate c.args.taps c.requires.0.defined (decided_bit c.args.l c.args.items.now) (replicate 520 0) c.args.out.now c.in-Refused.r e) in
+    record {
+      answer = ap (λ (q : Outcome ℕ (List ℕ)). q.report) law;
+      bytes = ap (λ (q : Outcome ℕ (List ℕ)). q.out) law;
+    }
+
+pub returns-in-Done : goal.returns-in-Done
+returns-in-Done c =
+    record {
+      answer = block-report c.args.kind c.args.rate c.args.taps c.requires.0.defined (decided_bit c.args.l c.args.items.now) (replicate 520 0) _ c.in-Done.size (done-is (goal.at.returns-in-Done c).In-Done) (recovered-is (goal.at.returns-in-Done c).After-recover).1 c.args.out.now;
+      bytes = c.scramble.ensures ∙ block_out c.args.kind c.args.rate c.args.taps c.requires.0.defined (decided_bit c.args.l c.args.items.now) (replicate 520 0) _ c.in-Done.size (done-is (goal.at.returns-in-Done c).In-Done) (recovered-is (goal.at.returns-in-Done c).After-recover).1 c.args.out.now;
+    }
