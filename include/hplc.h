@@ -17,8 +17,7 @@
  *   numbers.
  * - The buffers of one call, `value` among them, do not overlap.
  *
- * The caller owns all memory: nothing is allocated or kept between calls, since the language that this is written in can do neither.
- * The library needs memcpy and memset, and nothing else.
+ * The caller owns all memory: nothing is allocated or kept between calls. The library needs memcpy and memset, and nothing else.
  *
  * A bit going out is an item 0 or 1. A received item is 0, 1 or 2, where 2 means lost.
  */

@@ -11,7 +11,12 @@ while IFS= read -r cite; do
     *'#'*)
       file=crates/${cite%%#*}
       name=${cite#*#}
-      if ! [ -f "$file" ] || ! grep -qE "^ *((pub|extern|\"C\"|fn|abbrev|unfoldable|record|data|struct|enum|const) +)*$name *[:({]" "$file"; then
+      # A function's proof is one file or two: what was walked by hand, or its invariants and its answers.
+      files=("$file")
+      case $file in
+        */proofs/*/Proof.antt | */proofs/*/Answers.antt | */proofs/*/Invariants.antt) files=("${file%/*}"/{Proof,Answers,Invariants}.antt) ;;
+      esac
+      if ! grep -qsE "^ *((pub|extern|\"C\"|fn|abbrev|unfoldable|record|data|struct|enum|const) +)*$name *[:({<]" "${files[@]}"; then
         printf 'not defined there: %s\n' "$cite"
         bad=1
       fi
