@@ -217,10 +217,8 @@ fn line(rt: &impl Print, kind: u8, modulation: u8, k: u16) -> io::Result<()> {
 }
 
 fn lines(rt: &impl Print, kind: u8, modulation: u8, count: u16) -> io::Result<()> {
-    let mut k: u16 = 0;
-    while k < count {
+    for k in 0..count {
         line(rt, kind, modulation, k)?;
-        k += 1;
     }
     Ok(())
 }

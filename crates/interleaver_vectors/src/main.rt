@@ -24,10 +24,8 @@ fn joined(high: u8, low: u8) -> u64 {
 fn number(s: &mut [u8], first: usize, height: usize, unit: usize)
     requires { (0 < unit) × (first + height * 4 ≤ length s.old) }
 {
-    let mut j: usize = 0;
-    while j < height * 4 {
+    for j in 0..height * 4 {
         s[first + j] = ((first + j % 4 * height + j / 4) / unit % 256) as u8;
-        j += 1;
     }
 }
 
@@ -48,13 +46,11 @@ fn shuffle(kind: usize, rate: usize, unit: usize, out: &mut [u8])
 fn print_numbers(rt: &impl Print, n: usize, high: &[u8], low: &[u8]) -> io::Result<()>
     requires { (n ≤ length high.now) × (n ≤ length low.now) }
 {
-    let mut i: usize = 0;
-    while i < n {
+    for i in 0..n {
         if 0 < i {
             output::put(rt, b" ")?;
         }
         output::put_number(rt, joined(high[i], low[i]))?;
-        i += 1;
     }
     output::put(rt, b"\n")
 }
@@ -75,10 +71,8 @@ fn print_layout(rt: &impl Print, kind: usize, rate: usize) -> io::Result<()>
 }
 
 fn main(rt: HostRuntime) -> io::Result<()> {
-    let mut kind: usize = 0;
-    while kind < 5 {
+    for kind in 0..5 {
         print_layout(&rt, kind, 0)?;
-        kind += 1;
     }
     print_layout(&rt, 4, 1)
 }

@@ -17,20 +17,16 @@ fn advanced(state: u32) -> u32 {
 // Bytes from the generator, each the top byte of a state.
 fn generate(seed: u32, bytes: &mut [u8]) {
     let mut state = seed;
-    let mut i: usize = 0;
-    while i < bytes.len() {
+    for byte in bytes.iter_mut() {
         state = advanced(state);
-        bytes[i] = (state / 16777216) as u8;
-        i += 1;
+        *byte = (state / 16777216) as u8;
     }
 }
 
 // Bits as the characters 0 and 1.
 fn to_text(bits: &mut [u8]) {
-    let mut i: usize = 0;
-    while i < bits.len() {
-        bits[i] = 48 + bits[i] % 2;
-        i += 1;
+    for bit in bits.iter_mut() {
+        *bit = 48 + *bit % 2;
     }
 }
 

@@ -95,14 +95,12 @@ fn run(
 ) -> io::Result<()> {
     let mut input = record::untouched_bytes();
     let mut expected = record::untouched_bytes();
-    let mut k: u64 = 0;
-    while k < MOST_RECORDS {
+    for k in 0..MOST_RECORDS {
         if !run_record(rt, file, k, &mut input, &mut expected, records, mismatches)? {
             return Ok(());
         }
-        k += 1;
     }
-    record_file::put_line(rt, b"not read: record ", k)
+    record_file::put_line(rt, b"not read: record ", MOST_RECORDS)
 }
 
 fn main(rt: HostRuntime) -> io::Result<()> {
