@@ -3,6 +3,7 @@
 // Internal: nothing here is a public entry. What the system's calls do is assumed, as in every program, and no contract can say what is
 // read or written (D24). `rt` stands for the system and prints on standard output; `errors` prints on standard error.
 #![tactic(auto)]
+
 ghost use Rattle.std.specs.Prelude.{◌≡◌, ◌≤◌, length, replicate, IfOk};
 ghost use Rattle.command.specs.Counts.{IsPrefixLen};
 ghost use Rattle.job.specs.Jobs.{refusal_lines};

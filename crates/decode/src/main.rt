@@ -1,6 +1,7 @@
 // Writes the word or the block of received items as a line of hex: `decode CARD ITEMS`, both names of files, an item a byte. A refusal
 // is written as two lines, its number and what comes with it.
 #![tactic(auto)]
+
 use refusal::Answer;
 use std::io;
 

@@ -1,6 +1,7 @@
 // Writes the items of a word or a block, a byte an item: `encode CARD BLOCK`, both names of files. A refusal is written as two lines,
 // its number and what comes with it.
 #![tactic(auto)]
+
 use refusal::Answer;
 use std::io;
 

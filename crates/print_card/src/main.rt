@@ -2,6 +2,7 @@
 //
 // It reads past a card's end before the length is judged, so a card that is too long is refused too.
 #![tactic(auto)]
+
 use refusal::Answer;
 use std::io;
 

@@ -8,6 +8,7 @@
 // Internal: nothing here is a public entry. What the system's calls do is assumed, as in every program: of what is read contracts say
 // bounds alone, and of what is written nothing (D24). A function that writes answers an error where a write fails.
 #![tactic(auto)]
+
 ghost use Rattle.std.specs.Prelude.{◌≡◌, true, ◌≤◌, length};
 ghost use Rattle.record_file.specs.Reading.{serves, AtMost, Whole};
 
