@@ -3,9 +3,11 @@
 // `map M D I Q`: the modulation, its bits from d0 on, and the bits of the two f64 coordinates. `slice M A B ITEMS`: the coordinates
 // `value(A)` and `value(B)`, and the items; `lost` stands in place of A and B for a lost carrier.
 #![tactic(auto)]
+
 use constellation::Mapped;
 use refusal::{Answer, Refusal};
 use slicing::{Received, Sliced};
+use std::io;
 
 // The factors of QPSK and 16QAM, and 2f of 16QAM with its two neighbours.
 const QPSK_FACTOR: f64 = 6369051672525773.0 / 9007199254740992.0;
@@ -40,8 +42,8 @@ const EDGES: [f64; 15] = [
 // How many coordinates are sliced against each other.
 const COORDINATES: u16 = 51;
 
-fn digit(d: u8) {
-    output::put_number(d as u64);
+fn digit(rt: &impl Print, d: u8) -> io::Result<()> {
+    output::put_number(rt, d as u64)
 }
 
 // A float's bits, and 0 for a NaN, which has no bits of its own.
@@ -88,82 +90,92 @@ fn value(k: u8) -> f64 {
 }
 
 // A refusal's number, and what comes with it where that is asked.
-fn refused(r: Refusal, with_value: bool) {
+fn refused(rt: &impl Print, r: Refusal, with_value: bool) -> io::Result<()> {
     let mut values = [0u64; 2];
     let n = refusal::report(Answer::Refused(r), &mut values);
-    output::put(b"refused ");
-    output::put_number(n as u64);
+    output::put(rt, b"refused ")?;
+    output::put_number(rt, n as u64)?;
     if with_value {
-        output::put(b" ");
-        output::put_number(values[0]);
+        output::put(rt, b" ")?;
+        output::put_number(rt, values[0])?;
     }
+    Ok(())
 }
 
-fn coordinates(i: f64, q: f64) {
-    output::put_hex(bits_of(i));
-    output::put(b" ");
-    output::put_hex(bits_of(q));
+fn coordinates(rt: &impl Print, i: f64, q: f64) -> io::Result<()> {
+    output::put_hex(rt, bits_of(i))?;
+    output::put(rt, b" ")?;
+    output::put_hex(rt, bits_of(q))
 }
 
-fn mapping(modulation: u8, d0: u8, d1: u8, d2: u8, d3: u8, with_value: bool) {
+fn mapping(
+    rt: &impl Print,
+    modulation: u8,
+    d0: u8,
+    d1: u8,
+    d2: u8,
+    d3: u8,
+    with_value: bool,
+) -> io::Result<()> {
     match constellation::map(modulation, d0, d1, d2, d3) {
-        Mapped::At(p) => coordinates(p.i, p.q),
-        Mapped::Refused(r) => refused(r, with_value),
+        Mapped::At(p) => coordinates(rt, p.i, p.q)?,
+        Mapped::Refused(r) => refused(rt, r, with_value)?,
     }
-    output::put(b"\n");
+    output::put(rt, b"\n")
 }
 
-fn digits(modulation: u8, d0: u8, d1: u8, d2: u8, d3: u8) {
-    digit(d0);
+fn digits(rt: &impl Print, modulation: u8, d0: u8, d1: u8, d2: u8, d3: u8) -> io::Result<()> {
+    digit(rt, d0)?;
     if 0 < modulation {
-        digit(d1);
+        digit(rt, d1)?;
     }
     if 1 < modulation {
-        digit(d2);
-        digit(d3);
+        digit(rt, d2)?;
+        digit(rt, d3)?;
     }
+    Ok(())
 }
 
-fn slicing(modulation: u8, received: Received) {
+fn slicing(rt: &impl Print, modulation: u8, received: Received) -> io::Result<()> {
     match slicing::slice(modulation, received) {
-        Sliced::One(a) => digit(a),
-        Sliced::Two(a, b) => digits(1, a, b, 0, 0),
-        Sliced::Four(a, b, c, d) => digits(2, a, b, c, d),
-        Sliced::Refused(r) => refused(r, false),
+        Sliced::One(a) => digit(rt, a)?,
+        Sliced::Two(a, b) => digits(rt, 1, a, b, 0, 0)?,
+        Sliced::Four(a, b, c, d) => digits(rt, 2, a, b, c, d)?,
+        Sliced::Refused(r) => refused(rt, r, false)?,
     }
-    output::put(b"\n");
+    output::put(rt, b"\n")
 }
 
 // The bits of v, from the least significant on.
-fn map_line(modulation: u8, v: u8) {
+fn map_line(rt: &impl Print, modulation: u8, v: u8) -> io::Result<()> {
     let d0 = v % 2;
     let d1 = v / 2 % 2;
     let d2 = v / 4 % 2;
     let d3 = v / 8 % 2;
-    output::put(b"map ");
-    digit(modulation);
-    output::put(b" ");
-    digits(modulation, d0, d1, d2, d3);
-    output::put(b" ");
-    mapping(modulation, d0, d1, d2, d3, true);
+    output::put(rt, b"map ")?;
+    digit(rt, modulation)?;
+    output::put(rt, b" ")?;
+    digits(rt, modulation, d0, d1, d2, d3)?;
+    output::put(rt, b" ")?;
+    mapping(rt, modulation, d0, d1, d2, d3, true)
 }
 
-fn slice_line(modulation: u8, a: u8, b: u8) {
-    output::put(b"slice ");
-    digit(modulation);
-    output::put(b" ");
-    digit(a);
-    output::put(b" ");
-    digit(b);
-    output::put(b" ");
-    slicing(modulation, Received::Heard(value(a), value(b)));
+fn slice_line(rt: &impl Print, modulation: u8, a: u8, b: u8) -> io::Result<()> {
+    output::put(rt, b"slice ")?;
+    digit(rt, modulation)?;
+    output::put(rt, b" ")?;
+    digit(rt, a)?;
+    output::put(rt, b" ")?;
+    digit(rt, b)?;
+    output::put(rt, b" ")?;
+    slicing(rt, modulation, Received::Heard(value(a), value(b)))
 }
 
-fn lost_line(modulation: u8) {
-    output::put(b"slice ");
-    digit(modulation);
-    output::put(b" lost ");
-    slicing(modulation, Received::Lost);
+fn lost_line(rt: &impl Print, modulation: u8) -> io::Result<()> {
+    output::put(rt, b"slice ")?;
+    digit(rt, modulation)?;
+    output::put(rt, b" lost ")?;
+    slicing(rt, modulation, Received::Lost)
 }
 
 fn two_at(k: u8, j: u8) -> u8 {
@@ -171,60 +183,61 @@ fn two_at(k: u8, j: u8) -> u8 {
 }
 
 // Bit k is 2, and the others are 0.
-fn bad_line(modulation: u8, k: u8) {
-    output::put(b"map ");
-    digit(modulation);
-    output::put(b" bad ");
-    digit(k);
-    output::put(b" ");
+fn bad_line(rt: &impl Print, modulation: u8, k: u8) -> io::Result<()> {
+    output::put(rt, b"map ")?;
+    digit(rt, modulation)?;
+    output::put(rt, b" bad ")?;
+    digit(rt, k)?;
+    output::put(rt, b" ")?;
     mapping(
+        rt,
         modulation,
         two_at(k, 0),
         two_at(k, 1),
         two_at(k, 2),
         two_at(k, 3),
         true,
-    );
+    )
 }
 
 // Line k of a kind: 0 the points, 1 the slicings of all pairs of coordinates, 2 the mappings of a bad bit.
-fn line(kind: u8, modulation: u8, k: u16) {
+fn line(rt: &impl Print, kind: u8, modulation: u8, k: u16) -> io::Result<()> {
     if kind == 0 {
-        map_line(modulation, (k % 256) as u8);
+        map_line(rt, modulation, (k % 256) as u8)
     } else if kind == 1 {
         slice_line(
+            rt,
             modulation,
             (k / COORDINATES % COORDINATES) as u8,
             (k % COORDINATES) as u8,
-        );
+        )
     } else {
-        bad_line(modulation, (k % 256) as u8);
+        bad_line(rt, modulation, (k % 256) as u8)
     }
 }
 
-fn lines(kind: u8, modulation: u8, count: u16) {
-    let mut k: u16 = 0;
-    while k < count {
-        line(kind, modulation, k);
-        k += 1;
+fn lines(rt: &impl Print, kind: u8, modulation: u8, count: u16) -> io::Result<()> {
+    for k in 0..count {
+        line(rt, kind, modulation, k)?;
     }
+    Ok(())
 }
 
-fn main() {
-    lines(0, 0, 2);
-    lines(0, 1, 4);
-    lines(0, 2, 16);
-    lines(1, 0, COORDINATES * COORDINATES);
-    lines(1, 1, COORDINATES * COORDINATES);
-    lines(1, 2, COORDINATES * COORDINATES);
-    lost_line(0);
-    lost_line(1);
-    lost_line(2);
-    output::put(b"map 3 ");
-    mapping(3, 0, 0, 0, 0, false);
-    output::put(b"slice 3 ");
-    slicing(3, Received::Lost);
-    lines(2, 0, 1);
-    lines(2, 1, 2);
-    lines(2, 2, 4);
+fn main(rt: HostRuntime) -> io::Result<()> {
+    lines(&rt, 0, 0, 2)?;
+    lines(&rt, 0, 1, 4)?;
+    lines(&rt, 0, 2, 16)?;
+    lines(&rt, 1, 0, COORDINATES * COORDINATES)?;
+    lines(&rt, 1, 1, COORDINATES * COORDINATES)?;
+    lines(&rt, 1, 2, COORDINATES * COORDINATES)?;
+    lost_line(&rt, 0)?;
+    lost_line(&rt, 1)?;
+    lost_line(&rt, 2)?;
+    output::put(&rt, b"map 3 ")?;
+    mapping(&rt, 3, 0, 0, 0, 0, false)?;
+    output::put(&rt, b"slice 3 ")?;
+    slicing(&rt, 3, Received::Lost)?;
+    lines(&rt, 2, 0, 1)?;
+    lines(&rt, 2, 1, 2)?;
+    lines(&rt, 2, 2, 4)
 }

@@ -1,8 +1,11 @@
 // Prints, for each kind and rate, the source bit numbers of coded bits 0, 1 and so on, as the interleaver puts them in order.
 #![tactic(auto)]
+
 ghost use Rattle.std.specs.Prelude.{◌≡◌, ◌+◌, ◌*◌, ◌<◌, ◌≤◌, length};
 ghost use Rattle.card.specs.Modes.{Defined};
 ghost use Rattle.interleaver_shape.specs.Shapes.{coded_bits};
+
+use std::io;
 
 // Room for the coded bits of any block.
 fn room() -> [u8; 8320]
@@ -21,10 +24,8 @@ fn joined(high: u8, low: u8) -> u64 {
 fn number(s: &mut [u8], first: usize, height: usize, unit: usize)
     requires { (0 < unit) × (first + height * 4 ≤ length s.old) }
 {
-    let mut j: usize = 0;
-    while j < height * 4 {
+    for j in 0..height * 4 {
         s[first + j] = ((first + j % 4 * height + j / 4) / unit % 256) as u8;
-        j += 1;
     }
 }
 
@@ -42,40 +43,36 @@ fn shuffle(kind: usize, rate: usize, unit: usize, out: &mut [u8])
 }
 
 // A line of n numbers.
-fn print_numbers(n: usize, high: &[u8], low: &[u8])
+fn print_numbers(rt: &impl Print, n: usize, high: &[u8], low: &[u8]) -> io::Result<()>
     requires { (n ≤ length high.now) × (n ≤ length low.now) }
 {
-    let mut i: usize = 0;
-    while i < n {
+    for i in 0..n {
         if 0 < i {
-            output::put(b" ");
+            output::put(rt, b" ")?;
         }
-        output::put_number(joined(high[i], low[i]));
-        i += 1;
+        output::put_number(rt, joined(high[i], low[i]))?;
     }
-    output::put(b"\n");
+    output::put(rt, b"\n")
 }
 
 // The two lines of a kind and rate.
-fn print_layout(kind: usize, rate: usize)
+fn print_layout(rt: &impl Print, kind: usize, rate: usize) -> io::Result<()>
     requires { Defined kind rate }
 {
-    output::put_named(b"kind ", kind as u64);
-    output::put_named(b" rate ", rate as u64);
-    output::put(b"\n");
+    output::put_named(rt, b"kind ", kind as u64)?;
+    output::put_named(rt, b" rate ", rate as u64)?;
+    output::put(rt, b"\n")?;
     let n = interleaver_shape::coded_bits(kind, rate);
     let mut high = room();
     let mut low = room();
     shuffle(kind, rate, 256, &mut high);
     shuffle(kind, rate, 1, &mut low);
-    print_numbers(n, &high, &low);
+    print_numbers(rt, n, &high, &low)
 }
 
-fn main() {
-    let mut kind: usize = 0;
-    while kind < 5 {
-        print_layout(kind, 0);
-        kind += 1;
+fn main(rt: HostRuntime) -> io::Result<()> {
+    for kind in 0..5 {
+        print_layout(&rt, kind, 0)?;
     }
-    print_layout(4, 1);
+    print_layout(&rt, 4, 1)
 }

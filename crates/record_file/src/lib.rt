@@ -6,12 +6,15 @@
 // is which call.
 //
 // Internal: nothing here is a public entry. What the system's calls do is assumed, as in every program: of what is read contracts say
-// bounds alone, and of what is written nothing (D24).
+// bounds alone, and of what is written nothing (D24). A function that writes answers an error where a write fails.
 #![tactic(auto)]
+
 ghost use Rattle.std.specs.Prelude.{◌≡◌, true, ◌≤◌, length};
 ghost use Rattle.record_file.specs.Reading.{serves, AtMost, Whole};
 
 use record::Record;
+use std::io;
+use std::io::Read;
 
 // The lengths of a record's bytes.
 #[derive(Clone, Copy)]
@@ -42,40 +45,40 @@ fn big_endian(bytes: [u8; 8]) -> u64 {
     record::word_at(&bytes, 0)
 }
 
-// Reads a number of `width` bytes.
-fn read_number(fd: i32, width: usize) -> Number
+// Reads a number of `width` bytes. A file that cannot be read on breaks off.
+fn read_number(file: &mut impl Read, width: usize) -> Number
     requires { width ≤ 8 }
 {
     let mut bytes = [0u8; 8];
     let from = 8 - width;
-    if io::read_full(fd, &mut bytes[from..]) != width {
+    if file.read_exact(&mut bytes[from..]).is_err() {
         return Number::Missing;
     }
     Number::Of(big_endian(bytes))
 }
 
 // Reads as many bytes, and answers their number; it is missing where the file breaks off or there is no room for the bytes.
-fn read_bytes(fd: i32, count: u64, out: &mut [u8]) -> Number
+fn read_bytes(file: &mut impl Read, count: u64, out: &mut [u8]) -> Number
     ensures { AtMost (length out.old) result }
 {
     let n = count as usize;
     if out.len() < n {
         return Number::Missing;
     }
-    if io::read_full(fd, &mut out[..n]) != n {
+    if file.read_exact(&mut out[..n]).is_err() {
         return Number::Missing;
     }
     Number::Of(count)
 }
 
 // Reads a length of four bytes, and as many bytes.
-fn read_part(fd: i32, out: &mut [u8]) -> Number
+fn read_part(file: &mut impl Read, out: &mut [u8]) -> Number
     ensures { AtMost (length out.old) result }
 {
-    let Number::Of(count) = read_number(fd, 4) else {
+    let Number::Of(count) = read_number(file, 4) else {
         return Number::Missing;
     };
-    read_bytes(fd, count, out)
+    read_bytes(file, count, out)
 }
 
 // Whether a card has the length that its call has.
@@ -93,7 +96,7 @@ fn card_serves(call: u64, count: u64) -> bool
 
 // Reads what stands behind the call and the card, and the bytes of the input and the expected output to the memory lent.
 fn read_rest(
-    fd: i32,
+    file: &mut impl Read,
     label: u64,
     call: u64,
     card: u64,
@@ -103,19 +106,19 @@ fn read_rest(
     requires { serves call card ≡ true }
     ensures { Whole label card (length input.old) (length expected.old) result }
 {
-    let Number::Of(input_length) = read_part(fd, input) else {
+    let Number::Of(input_length) = read_part(file, input) else {
         return Next::Broken;
     };
-    let Number::Of(room) = read_number(fd, 4) else {
+    let Number::Of(room) = read_number(file, 4) else {
         return Next::Broken;
     };
-    let Number::Of(number) = read_number(fd, 1) else {
+    let Number::Of(number) = read_number(file, 1) else {
         return Next::Broken;
     };
-    let Number::Of(value) = read_number(fd, 8) else {
+    let Number::Of(value) = read_number(file, 8) else {
         return Next::Broken;
     };
-    let Number::Of(output) = read_part(fd, expected) else {
+    let Number::Of(output) = read_part(file, expected) else {
         return Next::Broken;
     };
     Next::Of(
@@ -136,7 +139,7 @@ fn read_rest(
 
 // Reads the next record, and the bytes of its label, card, input and expected output to the memory lent.
 pub fn read_record(
-    fd: i32,
+    file: &mut impl Read,
     label: &mut [u8],
     card: &mut [u8],
     input: &mut [u8],
@@ -144,54 +147,54 @@ pub fn read_record(
 ) -> Next
     ensures { Whole (length label.old) (length card.old) (length input.old) (length expected.old) result }
 {
-    let Number::Of(count) = read_number(fd, 1) else {
+    let Number::Of(count) = read_number(file, 1) else {
         return Next::End;
     };
-    let Number::Of(label_len) = read_bytes(fd, count, label) else {
+    let Number::Of(label_len) = read_bytes(file, count, label) else {
         return Next::Broken;
     };
-    let Number::Of(call) = read_number(fd, 1) else {
+    let Number::Of(call) = read_number(file, 1) else {
         return Next::Broken;
     };
-    let Number::Of(card_len) = read_part(fd, card) else {
+    let Number::Of(card_len) = read_part(file, card) else {
         return Next::Broken;
     };
     if card_serves(call, card_len) {
-        return read_rest(fd, label_len, call, card_len, input, expected);
+        return read_rest(file, label_len, call, card_len, input, expected);
     }
     Next::Broken
 }
 
 // A line with a number at its end.
-pub fn put_line(s: &[u8], n: u64) {
-    output::put_named(s, n);
-    output::put(b"\n");
+pub fn put_line(rt: &impl Print, s: &[u8], n: u64) -> io::Result<()> {
+    output::put_named(rt, s, n)?;
+    output::put(rt, b"\n")
 }
 
 // A label, and the number and the value that its call gave.
-pub fn put_case(label: &[u8], number: u64, value: u64) {
-    output::put(label);
-    output::put_named(b": ", number);
-    put_line(b" ", value);
+pub fn put_case(rt: &impl Print, label: &[u8], number: u64, value: u64) -> io::Result<()> {
+    output::put(rt, label)?;
+    output::put_named(rt, b": ", number)?;
+    put_line(rt, b" ", value)
 }
 
-fn put_counts(name: &[u8], records: u64, mismatches: u64) {
-    output::put_named(name, records);
-    output::put_named(b" records, ", mismatches);
-    output::put(b" mismatches\n");
+fn put_counts(rt: &impl Print, name: &[u8], records: u64, mismatches: u64) -> io::Result<()> {
+    output::put_named(rt, name, records)?;
+    output::put_named(rt, b" records, ", mismatches)?;
+    output::put(rt, b" mismatches\n")
 }
 
 // A line for each call, and one for all.
-pub fn put_all(records: &[u64; 11], mismatches: &[u64; 11]) {
-    put_counts(b"fc_send ", records[0], mismatches[0]);
-    put_counts(b"fc_read ", records[1], mismatches[1]);
-    put_counts(b"payload_send ", records[2], mismatches[2]);
-    put_counts(b"payload_read ", records[3], mismatches[3]);
-    put_counts(b"card_read ", records[4], mismatches[4]);
-    put_counts(b"card_text ", records[5], mismatches[5]);
-    put_counts(b"map ", records[6], mismatches[6]);
-    put_counts(b"slice ", records[7], mismatches[7]);
-    put_counts(b"card_write ", records[8], mismatches[8]);
-    put_counts(b"card_move ", records[9], mismatches[9]);
-    put_counts(b"", records[10], mismatches[10]);
+pub fn put_all(rt: &impl Print, records: &[u64; 11], mismatches: &[u64; 11]) -> io::Result<()> {
+    put_counts(rt, b"fc_send ", records[0], mismatches[0])?;
+    put_counts(rt, b"fc_read ", records[1], mismatches[1])?;
+    put_counts(rt, b"payload_send ", records[2], mismatches[2])?;
+    put_counts(rt, b"payload_read ", records[3], mismatches[3])?;
+    put_counts(rt, b"card_read ", records[4], mismatches[4])?;
+    put_counts(rt, b"card_text ", records[5], mismatches[5])?;
+    put_counts(rt, b"map ", records[6], mismatches[6])?;
+    put_counts(rt, b"slice ", records[7], mismatches[7])?;
+    put_counts(rt, b"card_write ", records[8], mismatches[8])?;
+    put_counts(rt, b"card_move ", records[9], mismatches[9])?;
+    put_counts(rt, b"", records[10], mismatches[10])
 }

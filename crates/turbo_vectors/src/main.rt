@@ -1,8 +1,11 @@
 // Prints the kept parity bits of made blocks, a line for each kind, rate and some taps, to be compared with what the
 // reference finds for them.
 #![tactic(auto)]
+
 ghost use Rattle.std.specs.Prelude.{◌≡◌, ◌<◌, length};
 ghost use Rattle.card.specs.Modes.{block_bytes};
+
+use std::io;
 
 const TAPS: [u16; 6] = [0, 1095, 2047, 682, 1365, 731];
 
@@ -14,24 +17,26 @@ fn advanced(state: u32) -> u32 {
 // Bytes from the generator, each the top byte of a state.
 fn generate(seed: u32, bytes: &mut [u8]) {
     let mut state = seed;
-    let mut i: usize = 0;
-    while i < bytes.len() {
+    for byte in bytes.iter_mut() {
         state = advanced(state);
-        bytes[i] = (state / 16777216) as u8;
-        i += 1;
+        *byte = (state / 16777216) as u8;
     }
 }
 
 // Bits as the characters 0 and 1.
 fn to_text(bits: &mut [u8]) {
-    let mut i: usize = 0;
-    while i < bits.len() {
-        bits[i] = 48 + bits[i] % 2;
-        i += 1;
+    for bit in bits.iter_mut() {
+        *bit = 48 + *bit % 2;
     }
 }
 
-fn print_parity(kind: usize, rate: usize, taps: u16, bytes: &[u8])
+fn print_parity(
+    rt: &impl Print,
+    kind: usize,
+    rate: usize,
+    taps: u16,
+    bytes: &[u8],
+) -> io::Result<()>
     requires { (kind < 5) × (rate < 2) × (length bytes.now ≡ block_bytes kind) }
 {
     let mut packed = [0u8; 520];
@@ -40,35 +45,36 @@ fn print_parity(kind: usize, rate: usize, taps: u16, bytes: &[u8])
     bits::unpack(&packed, &mut out);
     to_text(&mut out);
     let n = turbo::kept_count(kind, rate);
-    output::put(&out[..n]);
-    output::put(b"\n");
+    output::put(rt, &out[..n])?;
+    output::put(rt, b"\n")
 }
 
-fn print_line(kind: usize, rate: usize, taps: u16)
+fn print_line(rt: &impl Print, kind: usize, rate: usize, taps: u16) -> io::Result<()>
     requires { (kind < 5) × (rate < 2) }
 {
-    output::put_named(b"kind ", kind as u64);
-    output::put_named(b" rate ", rate as u64);
-    output::put_named(b" taps ", taps as u64);
-    output::put(b" ");
+    output::put_named(rt, b"kind ", kind as u64)?;
+    output::put_named(rt, b" rate ", rate as u64)?;
+    output::put_named(rt, b" taps ", taps as u64)?;
+    output::put(rt, b" ")?;
     let mut bytes = [0u8; 520];
     generate(12345 + 1000 * (kind as u32) + taps as u32, &mut bytes);
     let n = card::block_bytes(kind);
-    print_parity(kind, rate, taps, &bytes[..n]);
+    print_parity(rt, kind, rate, taps, &bytes[..n])
 }
 
-fn print_lines(kind: usize, rate: usize)
+fn print_lines(rt: &impl Print, kind: usize, rate: usize) -> io::Result<()>
     requires { (kind < 5) × (rate < 2) }
 {
     let taps = TAPS;
     for i in 0..6 {
-        print_line(kind, rate, taps[i]);
+        print_line(rt, kind, rate, taps[i])?;
     }
+    Ok(())
 }
 
-fn main() {
+fn main(rt: HostRuntime) -> io::Result<()> {
     for kind in 0..5 {
-        print_lines(kind, 0);
+        print_lines(&rt, kind, 0)?;
     }
-    print_lines(4, 1);
+    print_lines(&rt, 4, 1)
 }

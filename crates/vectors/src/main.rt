@@ -6,8 +6,11 @@
 // that the call gave. Then there are the records and mismatches of each call and in all. A file that breaks off or has an unknown call
 // is read up to that record. Further lines number the records that differ, and one that could not be read, from 0 on.
 #![tactic(auto)]
+
 use record::Record;
 use record_file::{Lengths, Next};
+use std::io::Read;
+use std::{fs, io};
 
 // No more records are read from a file.
 const MOST_RECORDS: u64 = 1000000;
@@ -16,13 +19,14 @@ const MOST_RECORDS: u64 = 1000000;
 fn count(counts: &mut [u64; 11], call: u64) {
     if call < 10 {
         let k = call as usize;
-        counts[k] = std::num::wrapping_add_u64(counts[k], 1);
-        counts[10] = std::num::wrapping_add_u64(counts[10], 1);
+        counts[k] = counts[k].wrapping_add(1);
+        counts[10] = counts[10].wrapping_add(1);
     }
 }
 
 // Makes the call of record k, and counts and prints what came of it.
 fn judge(
+    rt: &impl Print,
     r: Record,
     lengths: Lengths,
     k: u64,
@@ -32,7 +36,7 @@ fn judge(
     expected: &[u8],
     records: &mut [u64; 11],
     mismatches: &mut [u64; 11],
-) {
+) -> io::Result<()> {
     let given = record_calls::run(
         r,
         record::start(card, lengths.card),
@@ -42,67 +46,72 @@ fn judge(
     count(records, r.call);
     if 0 < lengths.label {
         record_file::put_case(
+            rt,
             record::start(label, lengths.label),
             given.number,
             given.value,
-        );
+        )?;
     }
     if !given.agrees {
         count(mismatches, r.call);
-        record_file::put_line(b"differs: record ", k);
+        record_file::put_line(rt, b"differs: record ", k)?;
     }
+    Ok(())
 }
 
 // Reads record k and makes its call, and answers whether to go on.
 fn run_record(
-    fd: i32,
+    rt: &impl Print,
+    file: &mut impl Read,
     k: u64,
     input: &mut [u8],
     expected: &mut [u8],
     records: &mut [u64; 11],
     mismatches: &mut [u64; 11],
-) -> bool {
+) -> io::Result<bool> {
     let mut label = [0u8; 80];
     let mut card = [0u8; 80];
-    match record_file::read_record(fd, &mut label, &mut card, input, expected) {
+    match record_file::read_record(file, &mut label, &mut card, input, expected) {
         Next::Of(r, lengths) => {
             judge(
-                r, lengths, k, &label, &card, input, expected, records, mismatches,
-            );
-            true
+                rt, r, lengths, k, &label, &card, input, expected, records, mismatches,
+            )?;
+            Ok(true)
         }
-        Next::End => false,
+        Next::End => Ok(false),
         Next::Broken => {
-            record_file::put_line(b"broken: record ", k);
-            false
+            record_file::put_line(rt, b"broken: record ", k)?;
+            Ok(false)
         }
     }
 }
 
 // Runs the records of a file. An input or an expected output has as many bytes as an output at most.
-fn run(fd: i32, records: &mut [u64; 11], mismatches: &mut [u64; 11]) {
+fn run(
+    rt: &impl Print,
+    file: &mut impl Read,
+    records: &mut [u64; 11],
+    mismatches: &mut [u64; 11],
+) -> io::Result<()> {
     let mut input = record::untouched_bytes();
     let mut expected = record::untouched_bytes();
-    let mut k: u64 = 0;
-    while k < MOST_RECORDS {
-        if !run_record(fd, k, &mut input, &mut expected, records, mismatches) {
-            return;
+    for k in 0..MOST_RECORDS {
+        if !run_record(rt, file, k, &mut input, &mut expected, records, mismatches)? {
+            return Ok(());
         }
-        k += 1;
     }
-    record_file::put_line(b"not read: record ", k);
+    record_file::put_line(rt, b"not read: record ", MOST_RECORDS)
 }
 
-fn main() {
-    let path = b"entries.bin";
-    let fd = os::open_read(path);
-    if fd < 0 {
-        os::fail(path);
-        return;
+fn main(rt: HostRuntime) -> io::Result<()> {
+    let path = "entries.bin";
+    match fs::open(&rt, path) {
+        Ok(mut file) => {
+            let mut records = [0u64; 11];
+            let mut mismatches = [0u64; 11];
+            run(&rt, &mut file, &mut records, &mut mismatches)?;
+            record_file::put_all(&rt, &records, &mismatches)
+        }
+        Err(why) => output::put_failure(&rt.stderr(), path.as_bytes(), why),
     }
-    let mut records = [0u64; 11];
-    let mut mismatches = [0u64; 11];
-    run(fd, &mut records, &mut mismatches);
-    libc::close(fd);
-    record_file::put_all(&records, &mismatches);
 }

@@ -1,0 +1,2 @@
+-- What the contracts of `command` cite. Assumes nothing.
+pub mod Counts

@@ -1,0 +1,14 @@
+-- Both lists have room for the coded bits of any block.
+use Rattle.std.proofs.Common.{arith}
+use Rattle.interleaver_shape.proofs.ShapeLaws.{coded-le}
+use Rattle.interleaver_vectors.proofs.print_layout.Goals as goal
+
+pub shuffle-requires : goal.shuffle-requires
+shuffle-requires g c = (c.requires, omega arith, omega (arith, coded-le c.args.kind c.args.rate c.requires))
+
+pub shuffle-requires-2 : goal.shuffle-requires-2
+shuffle-requires-2 g c = (c.requires, omega arith, omega (arith, coded-le c.args.kind c.args.rate c.requires))
+
+pub print_numbers-requires : goal.print_numbers-requires
+print_numbers-requires g c =
+    (omega (arith, coded-le c.args.kind c.args.rate c.requires), omega (arith, coded-le c.args.kind c.args.rate c.requires))

@@ -1,0 +1,22 @@
+-- The kept bits of the longest block fit, as bytes and as text.
+use Rattle.std.proofs.Common.{◌≤◌, length, sym, arith, length-take-le}
+use Rattle.constituent.proofs.PairLaws.{few-pairs}
+use Rattle.turbo.proofs.PunctureLaws.{kept-le}
+use Rattle.turbo_vectors.proofs.print_parity.Goals as goal
+
+pub encode-requires : goal.encode-requires
+encode-requires g c = (
+  c.requires.0,
+  c.requires.1,
+  c.requires.2,
+  omega (arith, kept-le c.args.kind c.args.rate, few-pairs c.args.kind c.requires.0),
+)
+
+pub slice_bounds-out-end : goal.slice_bounds-out-end
+slice_bounds-out-end g c = omega (arith, kept-le c.args.kind c.args.rate, few-pairs c.args.kind c.requires.0)
+
+pub slice_bounds-put-end : goal.slice_bounds-put-end
+slice_bounds-put-end g c =
+    let within : c.kept_count-n.result ≤ length c.to_text.new.bits =
+    omega (arith, kept-le c.args.kind c.args.rate, few-pairs c.args.kind c.requires.0) in
+    sym (length-take-le _ _ within)
