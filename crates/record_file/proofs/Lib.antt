@@ -1,0 +1,2 @@
+-- What the proofs of `record_file` share. Assumes nothing.
+mod ReadingLaws
