@@ -20,8 +20,8 @@ use Rattle.bits.proofs.RangeLaws.{at_each}
 use Rattle.refusal.specs.declared.Refusal.{Refusal}
 use Rattle.refusal.specs.declared.Refusal.TheVariants.{Majority, Parity}
 use Rattle.refusal.specs.Report.{Report, done, refused, refusal}
-use Rattle.refusal.specs.Outcome.{Row, first_applicable, reported, outcome_by, blockwise, Outcome}
-use Rattle.refusal.proofs.OutcomeLaws.{NoneApplies, done-same, reported-done, reported-good, outcome-by-good, none-blockwise, blockwise-refused, blockwise-ext}
+use Rattle.refusal.specs.Outcome.{Row, first_applicable, reported, Outcome}
+use Rattle.refusal.proofs.OutcomeLaws.{NoneApplies, done-same, reported-done, reported-good}
 use Rattle.card.specs.Modes.{block_bytes, Defined}
 use Rattle.scrambler.specs.Scrambler.{scrambled}
 use Rattle.scrambler.proofs.ScramblerLaws.{scrambled-at, scrambled-twice, block-binary}
@@ -30,7 +30,9 @@ use Rattle.fec.specs.Coding.{data_bits, coded_bit}
 use Rattle.fec.proofs.CodingLaws.{coded-binary}
 use Rattle.recovery.specs.Recovery.{data_bit, first_undecided, disagreeing}
 use Rattle.recovery.proofs.RecoveryLaws.{clean-data, clean-rows, data-ext, rows_ext}
+use Rattle.payload_blocks.specs.Blockwise.{outcome_by, blockwise}
 use Rattle.payload_blocks.specs.Blocks.{block_of, block_bit, joined_bit, bits_of_block, bytes_found, block_rows, found, payload_found, recovered_all}
+use Rattle.payload_blocks.proofs.BlockwiseLaws.{outcome-by-good, none-blockwise, blockwise-refused, blockwise-ext}
 
 -- ---- parts of a list
 
@@ -71,7 +73,7 @@ module _ (kind rate : ℕ) (D : Defined kind rate) (e f : ℕ → ℕ) where
         same_bits (block_bytes kind) _ _ (λ k h. scrambled-at _ _ k (data-ext kind rate D (bits_of_block kind rate e b) (bits_of_block kind rate f b) same k h))
 
     block-rows-ext : (taps : ℕ) → block_rows kind rate taps e b ≡ block_rows kind rate taps f b
-    block-rows-ext taps = rows_ext kind rate D (bits_of_block kind rate e b) (bits_of_block kind rate f b) same taps b
+    block-rows-ext taps = rows_ext kind rate D (bits_of_block kind rate e b) (bits_of_block kind rate f b) same taps
 
     pub found-ext : (taps : ℕ) → found kind rate taps e b ≡ found kind rate taps f b
     unfolding found
@@ -111,7 +113,7 @@ module _ (kind rate : ℕ) (D : Defined kind rate) (taps : ℕ) (e : ℕ → ℕ
   unfolding found
   found-clean =
       reported-good (block_rows kind rate taps e b) (bytes_found kind rate e b)
-      (clean-rows kind rate D taps (scrambled (bit_of block)) (block-binary block (data_bits kind)) (bits_of_block kind rate e b) as-coded b)
+      (clean-rows kind rate D taps (scrambled (bit_of block)) (block-binary block (data_bits kind)) (bits_of_block kind rate e b) as-coded)
       ∙ ap (λ (l : List ℕ). done l) bytes-clean
 
 -- ---- what the findings come to
@@ -148,11 +150,3 @@ module _ (kind rate taps : ℕ) (e : ℕ → ℕ) where
       whole =
           written-put (n * block_bytes kind) 0 payload out _ (written-ext (n * block_bytes kind) _ (λ i. get_or payload i 0) out at_byte) (sym long)
           ∙ ap (λ (m : ℕ). payload ++ drop m out) long
-
-  -- a block that is refused: by 7 or 8, with itself as second value, and by the first of its rows that applies
-  record Refusing (b k v w : ℕ) : Type 0 where
-    cause : Refusal
-    decides : first_applicable (block_rows kind rate taps e b) (refusal {A = ℕ}) (done 0) ≡ refusal cause
-    reports : refusal {A = ℕ} cause ≡ refused k v w
-    number_is : (k ≡ 7) ⊎ (k ≡ 8)
-    block-is : w ≡ b

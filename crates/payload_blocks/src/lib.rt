@@ -69,7 +69,7 @@ fn recover_scrambled(
     let mut b: usize = 0;
     while b < blocks {
         let end = from + count;
-        match recovery::recover(kind, rate, taps, b, &decided[from..end], &mut bytes[at..]) {
+        match recovery::recover(kind, rate, taps, &decided[from..end], &mut bytes[at..]) {
             Answer::Refused(r) => return Answer::Refused(r),
             Answer::Done(_) => {
                 from = end;

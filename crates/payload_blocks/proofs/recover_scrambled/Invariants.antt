@@ -1,0 +1,7 @@
+use Rattle.payload_blocks.proofs.recover_scrambled.Given as goal
+
+abbrev pub invariant-loop-b : goal.invariant-loop-b
+invariant-loop-b l = ?
+
+abbrev pub decreases-loop-b : goal.decreases-loop-b
+decreases-loop-b l = ?
