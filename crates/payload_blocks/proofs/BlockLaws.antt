@@ -32,7 +32,7 @@ use Rattle.recovery.specs.Recovery.{data_bit, first_undecided, disagreeing}
 use Rattle.recovery.proofs.RecoveryLaws.{clean-data, clean-rows, data-ext, rows_ext}
 use Rattle.payload_blocks.specs.Blockwise.{outcome_by, blockwise}
 use Rattle.payload_blocks.specs.Blocks.{block_of, block_bit, joined_bit, bits_of_block, bytes_found, block_rows, found, payload_found, recovered_all}
-use Rattle.payload_blocks.proofs.BlockwiseLaws.{outcome-by-good, none-blockwise, blockwise-refused, blockwise-ext}
+use Rattle.payload_blocks.proofs.BlockwiseLaws.{refused-over, done-over, outcome-by-good, none-blockwise, blockwise-refused, blockwise-ext}
 
 -- ---- parts of a list
 
@@ -150,3 +150,39 @@ module _ (kind rate taps : ℕ) (e : ℕ → ℕ) where
       whole =
           written-put (n * block_bytes kind) 0 payload out _ (written-ext (n * block_bytes kind) _ (λ i. get_or payload i 0) out at_byte) (sym long)
           ∙ ap (λ (m : ℕ). payload ++ drop m out) long
+
+module _ (kind rate taps : ℕ) (e : ℕ → ℕ) where
+  -- what the decided bits come to goes by the rows alone, whatever is lent
+  pub all-refused : (n : ℕ) (was out : List ℕ) (r : Refusal) → (recovered_all kind rate taps n e was).report ≡ refusal r
+      → recovered_all kind rate taps n e out ≡ record { report = refusal r; out = out }
+  unfolding recovered_all
+  all-refused n was out r is =
+      refused-over {A = ℕ} (blockwise n (block_rows kind rate taps e)) was (n * block_bytes kind) (payload_found kind rate n e was) r out (payload_found kind rate n e out) is
+
+  pub all-done : (n : ℕ) (was : List ℕ) (d : ℕ) → (recovered_all kind rate taps n e was).report ≡ done d
+      → NoneApplies (blockwise n (block_rows kind rate taps e)) × (n * block_bytes kind ≡ d)
+  unfolding recovered_all
+  all-done n was d is =
+      done-over (blockwise n (block_rows kind rate taps e)) was (n * block_bytes kind) d (payload_found kind rate n e was) is
+
+  -- no row of any block applies: all bytes are found
+  pub all-good : (n : ℕ) (out : List ℕ) → NoneApplies (blockwise n (block_rows kind rate taps e))
+      → recovered_all kind rate taps n e out ≡ record { report = done (n * block_bytes kind); out = payload_found kind rate n e out }
+  unfolding recovered_all
+  all-good n out none = outcome-by-good (blockwise n (block_rows kind rate taps e)) out (n * block_bytes kind) (payload_found kind rate n e out) none
+
+  module _ {C : Type 0} (d : C) (n b : ℕ) (r : Refusal) where
+    -- no row of a lower block applies, and one of this block does: it decides
+    pub lowest-block : b < n → NoneApplies (blockwise b (block_rows kind rate taps e)) → first_applicable (block_rows kind rate taps e b) refusal (done d) ≡ refusal r
+        → (out : List ℕ) → recovered_all kind rate taps n e out ≡ record { report = refusal r; out = out }
+    unfolding recovered_all
+    lowest-block h lower is out =
+        blockwise-refused (block_rows kind rate taps e) d b r lower is {A = ℕ} n h out (n * block_bytes kind) (payload_found kind rate n e out)
+
+  -- the lowest block that is found to be a refusal decides, and all that was lent is kept
+  pub lowest_found : (n b : ℕ) → b < n → ((j : ℕ) → j < b → (l : List ℕ) × (found kind rate taps e j ≡ done l)) → (r : Refusal) → found kind rate taps e b ≡ refusal r
+      → (out : List ℕ) → recovered_all kind rate taps n e out ≡ record { report = refusal r; out = out }
+  unfolding found
+  lowest_found n b h lower r is =
+      lowest-block (bytes_found kind rate e b) n b r h
+      (none-blockwise (block_rows kind rate taps e) b (λ j l. let (bytes, good) = lower j l in (found-done kind rate taps e j bytes good).0)) is

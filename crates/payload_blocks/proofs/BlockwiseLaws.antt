@@ -2,7 +2,8 @@
 use mathlib.Core.Path.{◌≡◌, refl, sym, ap, ap₂, subst, ◌∙◌}
 use mathlib.Core.Bool.{Bool, true, false, cond}
 use mathlib.Core.List.{List, [], ◌∷◌, ◌++◌, append-nil}
-use Prim.Native.Nat.{ℕ, zero, suc, ◌<◌}
+use Prim.Native.Nat.{ℕ, zero, suc, ◌+◌, ◌<◌}
+use native.Mathlib.Numerals.{add-one}
 use native.Mathlib.Omega.{arith}
 use lib.Dec.{ltb}
 use borrow.Author.Tests.{ltb-true, ltb-false}
@@ -43,7 +44,7 @@ answers (done a) = 1
 answers (refused n v w) = 0
 
 -- no refusal's report is an answer
-not-answered : {A : Type 0} (r : Refusal) {a : A} → refusal r ≡ done a → ⊥
+pub not-answered : {A : Type 0} (r : Refusal) {a : A} → refusal r ≡ done a → ⊥
 unfolding answers
 not-answered {A} r e = let (v, f) = refused_as answers r in let z : ◌≡◌ {A = ℕ} 1 0 = sym (ap answers e) ∙ f in omega arith
 
@@ -97,6 +98,10 @@ module _ (rows : ℕ → List Row) where
   pub none-blockwise : (n : ℕ) → ((b : ℕ) → b < n → NoneApplies (rows b)) → NoneApplies (blockwise n rows)
   none-blockwise zero none = tt
   none-blockwise (suc n) none = none-both (blockwise n rows) (rows n) (none-blockwise n (λ b h. none b (omega arith))) (none n (omega arith))
+
+  -- one block more
+  pub none_next : (n : ℕ) → NoneApplies (blockwise n rows) → NoneApplies (rows n) → NoneApplies (blockwise (n + 1) rows)
+  none_next n lower none = rw add-one (none-both (blockwise n rows) (rows n) lower none)
 
   -- and the other way round
   pub none-of-block : (n : ℕ) → NoneApplies (blockwise n rows) → (b : ℕ) → b < n → NoneApplies (rows b)
