@@ -4,7 +4,7 @@ use mathlib.Core.Bool.{Bool, true, false, cond}
 use mathlib.Core.List.{List, ◌++◌}
 use mathlib.Core.Logic.{◌⊎◌, inl, inr}
 use mathlib.Core.Path.{◌≡◌, refl, sym, ap, ap₂, ◌∙◌}
-use Prim.Native.Nat.{ℕ, ◌+◌, ◌*◌, ◌/◌, ◌%◌, ◌≤◌, ◌<◌}
+use Prim.Native.Nat.{ℕ, ◌+◌, ◌*◌, ◌/◌, ◌%◌, ◌<◌}
 use native.Mathlib.Nat.{mod-lt, div-add-mod', div-lt_iff_lt-mul}
 use native.Mathlib.Omega.{arith}
 use lib.Arith.{digits_div, digits_mod}
@@ -12,15 +12,14 @@ use lib.Dec.{ltb, ltb→lt}
 use lib.ListN.{length, get_or, drop}
 use lib.Seq.{get_or-take, get_or-drop}
 use Rattle.bits.specs.Bits.{bit_of, bytes_of}
-use Rattle.bits.specs.Lists.{written}
 use Rattle.bits.proofs.NumberLaws.{row_within}
 use Rattle.bits.proofs.BitLaws.{same_bits, bytes_bits}
 use Rattle.bits.proofs.ListLaws.{written-ext, written-put}
 use Rattle.bits.proofs.RangeLaws.{at_each}
 use Rattle.refusal.specs.declared.Refusal.{Refusal}
 use Rattle.refusal.specs.declared.Refusal.TheVariants.{Majority, Parity}
-use Rattle.refusal.specs.Report.{Report, done, refused, refusal}
-use Rattle.refusal.specs.Outcome.{Row, first_applicable, reported, Outcome}
+use Rattle.refusal.specs.Report.{Report, done, refused, refusal, number}
+use Rattle.refusal.specs.Outcome.{Row, first_applicable, reported}
 use Rattle.refusal.proofs.OutcomeLaws.{NoneApplies, done-same, reported-done, reported-good}
 use Rattle.card.specs.Modes.{block_bytes, Defined}
 use Rattle.scrambler.specs.Scrambler.{scrambled}
@@ -118,6 +117,14 @@ module _ (kind rate : ℕ) (D : Defined kind rate) (taps : ℕ) (e : ℕ → ℕ
 
 -- ---- what the findings come to
 
+-- a refusal's report, whatever the answer would have been
+refused-same : Report (List ℕ) → Report ℕ
+refused-same (done l) = done 0
+refused-same (refused n v w) = refused n v w
+
+not-refused : {l : List ℕ} {n v w : ℕ} → done l ≡ refused n v w → ⊥
+not-refused {l} q = cc
+
 module _ (kind rate taps : ℕ) (e : ℕ → ℕ) where
   -- where a block is found to be some bytes, none of its rows applies, and these are the bytes
   found-done : (b : ℕ) (l : List ℕ) → found kind rate taps e b ≡ done l → NoneApplies (block_rows kind rate taps e b) × (bytes_found kind rate e b ≡ l)
@@ -179,10 +186,47 @@ module _ (kind rate taps : ℕ) (e : ℕ → ℕ) where
     lowest-block h lower is out =
         blockwise-refused (block_rows kind rate taps e) d b r lower is {A = ℕ} n h out (n * block_bytes kind) (payload_found kind rate n e out)
 
-  -- the lowest block that is found to be a refusal decides, and all that was lent is kept
-  pub lowest_found : (n b : ℕ) → b < n → ((j : ℕ) → j < b → (l : List ℕ) × (found kind rate taps e j ≡ done l)) → (r : Refusal) → found kind rate taps e b ≡ refusal r
-      → (out : List ℕ) → recovered_all kind rate taps n e out ≡ record { report = refusal r; out = out }
-  unfolding found
-  lowest_found n b h lower r is =
-      lowest-block (bytes_found kind rate e b) n b r h
-      (none-blockwise (block_rows kind rate taps e) b (λ j l. let (bytes, good) = lower j l in (found-done kind rate taps e j bytes good).0)) is
+  -- a block that is refused: by 7 or 8, and by the first of its rows that applies
+  record Refusing (b k v w : ℕ) : Type 0 where
+    cause : Refusal
+    decides : first_applicable (block_rows kind rate taps e b) (refusal {A = ℕ}) (done 0) ≡ refusal cause
+    reports : refusal {A = ℕ} cause ≡ refused k v w
+    number_is : (k ≡ 7) ⊎ (k ≡ 8)
+
+  refusing : (b k v w : ℕ) → found kind rate taps e b ≡ refused k v w → Refusing b k v w
+  unfolding found refused-same
+  refusing b k v w is =
+      go (ltb (first_undecided kind rate f) (coded_bits kind rate)) (ltb 0 (disagreeing kind rate taps f)) refl refl is
+    where
+      f : ℕ → ℕ
+      f = bits_of_block kind rate e b
+
+      go : (s t : Bool) → ltb (first_undecided kind rate (bits_of_block kind rate e b)) (coded_bits kind rate) ≡ s
+          → ltb 0 (disagreeing kind rate taps (bits_of_block kind rate e b)) ≡ t
+          → cond s (refusal (Majority (first_undecided kind rate (bits_of_block kind rate e b))))
+          (cond t (refusal (Parity (disagreeing kind rate taps (bits_of_block kind rate e b)))) (done (bytes_found kind rate e b)))
+          ≡ refused k v w
+          → Refusing b k v w
+      go true t majority parity q =
+          record {
+            cause = Majority (first_undecided kind rate (bits_of_block kind rate e b));
+            decides = rw majority;
+            reports = ap refused-same q;
+            number_is = inl (sym (ap number q));
+          }
+      go false true majority parity q =
+          record {
+            cause = Parity (disagreeing kind rate taps (bits_of_block kind rate e b));
+            decides = rw (majority, parity);
+            reports = ap refused-same q;
+            number_is = inr (sym (ap number q));
+          }
+      go false false majority parity q = absurd (not-refused q)
+
+  -- the lowest block that is found to be refused decides, by 7 or 8, and all that was lent is kept
+  pub lowest_found : (n b k v w : ℕ) → b < n → ((j : ℕ) → j < b → (l : List ℕ) × (found kind rate taps e j ≡ done l)) → found kind rate taps e b ≡ refused k v w
+      → (out : List ℕ) → ((k ≡ 7) ⊎ (k ≡ 8)) × (recovered_all kind rate taps n e out ≡ record { report = refused k v w; out = out })
+  lowest_found n b k v w h lower is out =
+      let R = refusing b k v w is in
+      let none = none-blockwise (block_rows kind rate taps e) b (λ j l. let (bytes, good) = lower j l in (found-done kind rate taps e j bytes good).0) in
+      (R.number_is, lowest-block 0 n b R.cause h none R.decides out ∙ ap (λ (r : Report ℕ). record { report = r; out = out }) R.reports)

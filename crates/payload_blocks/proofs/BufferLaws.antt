@@ -6,7 +6,6 @@ use native.Mathlib.Nat.{mul-le-mul_right}
 use native.Mathlib.Omega.{arith}
 use lib.Arith.{digits_div, digits_mod}
 use lib.ListN.{length, get_or, take, drop, length-append, length-take, length-drop}
-use lib.Dec.{ltb}
 use lib.Seq.{take_at, get_or-take, get_or-drop}
 use borrow.Author.Tests.{ltb-false}
 use Rattle.bits.specs.Bits.{bit_of, byte_of, bytes_of}
@@ -24,7 +23,7 @@ use Rattle.scrambler.proofs.ScramblerLaws.{length-scramble, bits-scramble, scram
 use Rattle.interleaver_shape.specs.Shapes.{coded_bits}
 use Rattle.interleaver.specs.Source.{coded_at}
 use Rattle.interleaver.proofs.InterleaverLaws.{coded-lt}
-use Rattle.fec.specs.Coding.{data_bits, coded_bit}
+use Rattle.fec.specs.Coding.{coded_bit}
 use Rattle.fec.proofs.CodingLaws.{coded-ext, coded-count}
 use Rattle.recovery.specs.Recovery.{data_bit, first_undecided, recover_rows, recovered}
 use Rattle.recovery.proofs.RecoveryLaws.{all-decided, recovered-ext}
@@ -91,16 +90,20 @@ part-descrambled size bytes b at end out start e fits = let few : end - at ≡ s
 
 -- ---- the bits of one block among the joined ones
 
+-- the elements of a list as bits
+abbrev pub decided_at : List ℕ → ℕ → ℕ
+decided_at decided i = get_or decided i 0
+
 module _ (kind rate : ℕ) (D : Defined kind rate) (decided : List ℕ) (b from end : ℕ) (start : from ≡ b * coded_bits kind rate) (e : end ≡ from + coded_bits kind rate) where
   part_bits : (i : ℕ) → i < coded_bits kind rate
-      → get_or (take (end - from) (drop from decided)) i 0 ≡ bits_of_block kind rate (λ x. get_or decided x 0) b i
+      → get_or (take (end - from) (drop from decided)) i 0 ≡ bits_of_block kind rate (decided_at decided) b i
   part_bits i h =
       let few : end - from ≡ coded_bits kind rate = omega arith in
       rw (few, start) (get_or-take (coded_bits kind rate) (drop (b * coded_bits kind rate) decided) i 0 h ∙ get_or-drop (b * coded_bits kind rate) decided i 0)
 
   -- a block's own recovery goes by them
-  pub part-recovered : (taps : ℕ) (out : List ℕ) → recovered kind rate taps (λ i. get_or (take (end - from) (drop from decided)) i 0) out
-      ≡ recovered kind rate taps (bits_of_block kind rate (λ x. get_or decided x 0) b) out
+  pub part-recovered : (taps : ℕ) (out : List ℕ) → recovered kind rate taps (decided_at (take (end - from) (drop from decided))) out
+      ≡ recovered kind rate taps (bits_of_block kind rate (decided_at decided) b) out
   part-recovered taps out = recovered-ext kind rate D _ _ part_bits taps out
 
 module _ (kind rate taps : ℕ) (f : ℕ → ℕ) (out : List ℕ) where

@@ -4,7 +4,8 @@ use Rattle.std.specs.Prelude.{List, [], ◌++◌, ℕ, zero, suc}
 use Rattle.refusal.specs.Report.{done, refusal}
 use Rattle.refusal.specs.Outcome.{Row, first_applicable, in_order, row_order, Outcome}
 
--- by rows in the order given: a refusal keeps what was lent; where no row applies, the answer and what was made
+-- by rows in the order given: a refusal keeps what was lent; where no row applies, the answer and what was made (the laws of `refusal` have it
+-- too, but specs/ cannot cite them)
 abbrev pub outcome_by : {A B : Type 0} → List Row → B → A → B → Outcome A B
 outcome_by rows out a made = first_applicable rows (λ r. record { report = refusal r; out = out }) (record { report = done a; out = made })
 

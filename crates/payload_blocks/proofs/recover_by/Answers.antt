@@ -4,7 +4,7 @@ use mathlib.Core.Path.{◌≡◌, sym, ap, ap₂, ◌∙◌}
 use mathlib.Core.List.{List}
 use Prim.Native.Nat.{ℕ, ◌*◌, ◌≤◌}
 use native.Mathlib.Omega.{arith}
-use lib.ListN.{length, get_or, take, length-take}
+use lib.ListN.{length, take}
 use lib.Seq.{length-take-le}
 use Rattle.bits.specs.Lists.{written}
 use Rattle.refusal.specs.Report.{Report, done}
@@ -14,20 +14,16 @@ use Rattle.card.specs.Modes.{block_bytes}
 use Rattle.fec.proofs.CodingLaws.{few_bytes}
 use Rattle.payload_blocks.specs.Blockwise.{blockwise}
 use Rattle.payload_blocks.specs.Blocks.{block_rows}
-use Rattle.payload_blocks.specs.Loops.Parts.{scrambled_byte, descrambled_byte}
+use Rattle.payload_blocks.specs.Loops.Parts.{descrambled_byte}
 use Rattle.payload_blocks.proofs.BlockLaws.{some_bytes, all-refused, all-done, all-good}
-use Rattle.payload_blocks.proofs.BufferLaws.{all-descrambled}
+use Rattle.payload_blocks.proofs.BufferLaws.{decided_at, all-descrambled}
 use Rattle.payload_blocks.proofs.recover_by.Goals as goal
 use Rattle.payload_blocks.proofs.recover_by.Goals.{In-Done}
 
--- the decided joined bits
-abbrev joined : List ℕ → ℕ → ℕ
-joined decided x = get_or decided x 0
-
 -- where the blocks' bytes are given, no row applies, and there are as many as the blocks have
-good : (c : In-Done) → NoneApplies (blockwise c.args.blocks (block_rows c.args.kind c.args.rate c.args.taps (joined c.args.decided.now)))
+good : (c : In-Done) → NoneApplies (blockwise c.args.blocks (block_rows c.args.kind c.args.rate c.args.taps (decided_at c.args.decided.now)))
     × (c.args.blocks * block_bytes c.args.kind ≡ c.in-Done.n)
-good c = all-done c.args.kind c.args.rate c.args.taps (joined c.args.decided.now) c.args.blocks c.args.bytes.now c.in-Done.n (sym c.in-Done.ensures.answer)
+good c = all-done c.args.kind c.args.rate c.args.taps (decided_at c.args.decided.now) c.args.blocks c.args.bytes.now c.in-Done.n (sym c.in-Done.ensures.answer)
 
 room : (c : In-Done) → c.in-Done.n ≤ length c.recover_scrambled.new.bytes
 room c = omega (arith, (good c).1, c.requires.kind_in_bounds.0, c.recover_scrambled.auto.bytes)
@@ -53,7 +49,7 @@ descramble-requires c =
 pub returns-in-Refused : goal.returns-in-Refused
 returns-in-Refused c =
     let a = c.args in
-    let law = sym (all-refused a.kind a.rate a.taps (joined a.decided.now) a.blocks a.bytes.now a.out.now c.in-Refused.r (sym c.in-Refused.ensures.answer)) in
+    let law = sym (all-refused a.kind a.rate a.taps (decided_at a.decided.now) a.blocks a.bytes.now a.out.now c.in-Refused.r (sym c.in-Refused.ensures.answer)) in
     record {
       answer = ap (λ (o : Outcome ℕ (List ℕ)). o.report) law;
       payload = ap (λ (o : Outcome ℕ (List ℕ)). o.out) law;
@@ -62,7 +58,7 @@ returns-in-Refused c =
 pub returns-in-Done : goal.returns-in-Done
 returns-in-Done c =
     let a = c.args in
-    let e = joined a.decided.now in
+    let e = decided_at a.decided.now in
     let bytes = c.recover_scrambled.new.bytes in
     let at = (goal.at.returns-in-Done c).In-Done in
     let (none, count) = good at in

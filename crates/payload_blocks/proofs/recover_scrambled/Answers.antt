@@ -2,10 +2,10 @@
 -- after the other. Assumes nothing.
 use mathlib.Core.Path.{◌≡◌, refl, sym, ap, subst, ◌∙◌}
 use mathlib.Core.List.{List}
-use Prim.Native.Nat.{ℕ, ◌+◌, ◌-◌, ◌*◌, ◌<◌, ◌≤◌}
+use Prim.Native.Nat.{ℕ, ◌+◌, ◌*◌, ◌≤◌}
 use native.Mathlib.Omega.{arith}
 use native.Mathlib.Nat.{zero-mul}
-use lib.ListN.{length, get_or, length-take, length-drop}
+use lib.ListN.{length, length-take, length-drop}
 use borrow.Author.Rules.{rules}
 use Rattle.bits.proofs.NumberLaws.{row_next, row_within}
 use Rattle.bits.proofs.ListLaws.{written_none, written-part, written_all}
@@ -21,7 +21,7 @@ use Rattle.payload_blocks.specs.Blocks.{bits_of_block, block_rows}
 use Rattle.payload_blocks.specs.Loops.Parts.{scrambled_byte}
 use Rattle.payload_blocks.proofs.BlockwiseLaws.{not-answered, none_next}
 use Rattle.payload_blocks.proofs.BlockLaws.{lowest-block, all-good}
-use Rattle.payload_blocks.proofs.BufferLaws.{few-blocks, part-recovered, one-refused, one-done, part-scrambled}
+use Rattle.payload_blocks.proofs.BufferLaws.{decided_at, few-blocks, part-recovered, one-refused, one-done, part-scrambled}
 use Rattle.payload_blocks.proofs.recover_scrambled.Goals as goal
 use Rattle.payload_blocks.proofs.recover_scrambled.Goals.{In-loop-b}
 
@@ -64,10 +64,6 @@ recover-requires c =
     let at = (goal.at.recover-requires c).In-loop-b in
     (c.requires.0, simp (length-take, length-drop) (omega (arith, bits_in at, c.loop-b.invariant.7)), simp (length-take, length-drop) (omega (arith, block_in at)))
 
--- the decided joined bits
-abbrev joined : List ℕ → ℕ → ℕ
-joined decided x = get_or decided x 0
-
 pub returns-in-Refused : goal.returns-in-Refused
 returns-in-Refused c =
     let a = c.args in
@@ -77,7 +73,7 @@ returns-in-Refused c =
     record {
       answer =
           ap (λ (o : Outcome ℕ (List ℕ)). o.report)
-          (sym (lowest-block a.kind a.rate a.taps (joined a.decided.now) (block_bytes a.kind) a.blocks at.b c.in-Refused.r c.loop-b-test.true at.invariant.5 is a.bytes.now));
+          (sym (lowest-block a.kind a.rate a.taps (decided_at a.decided.now) (block_bytes a.kind) a.blocks at.b c.in-Refused.r c.loop-b-test.true at.invariant.5 is a.bytes.now));
       bytes = λ e. absurd (not-answered c.in-Refused.r e);
     }
 
@@ -101,7 +97,7 @@ loop-b-preserved c =
     let a = c.args in
     let at = c.loop-b in
     let size = block_bytes a.kind in
-    let e = joined a.decided.now in
+    let e = decided_at a.decided.now in
     let same = part-recovered a.kind a.rate c.requires.0 a.decided.now at.b at.from _ at.invariant.1 (ap (λ (m : ℕ). at.from + m) at.invariant.7) a.taps _ in
     let (none, is) = one-done a.kind a.rate a.taps (bits_of_block a.kind a.rate e at.b) _ c.in-Done.field-0 (ap (λ (o : Outcome ℕ (List ℕ)). o.report) (sym same) ∙ sym c.in-Done.ensures.answer) in (
       omega (arith, c.loop-b-test.true),
@@ -123,7 +119,7 @@ returns c =
     let at = c.loop-b in
     let last : at.b ≡ a.blocks = omega (arith, at.invariant.0) in
     let whole = at.invariant.2 ∙ ap (λ (k : ℕ). k * block_bytes a.kind) last in
-    let e = joined a.decided.now in
+    let e = decided_at a.decided.now in
     let none = subst (λ (n : ℕ). NoneApplies (blockwise n (block_rows a.kind a.rate a.taps e))) last at.invariant.5 in
     record {
       answer =

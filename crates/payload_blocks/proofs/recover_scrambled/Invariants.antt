@@ -1,6 +1,6 @@
 -- `payload_blocks::recover_scrambled` meets its contract: no row of the blocks so far applies, and their bytes are written. Assumes nothing.
 use mathlib.Core.Path.{◌≡◌}
-use Prim.Native.Nat.{ℕ, ◌-◌, ◌*◌, ◌≤◌}
+use Prim.Native.Nat.{◌-◌, ◌*◌, ◌≤◌}
 use lib.ListN.{length, get_or}
 use Rattle.bits.specs.Lists.{written}
 use Rattle.refusal.proofs.OutcomeLaws.{NoneApplies}
