@@ -4,7 +4,7 @@ use mathlib.Core.Bool.{Bool, true, false, cond}
 use mathlib.Core.List.{List, ◌++◌}
 use mathlib.Core.Logic.{◌⊎◌, inl, inr}
 use mathlib.Core.Path.{◌≡◌, refl, sym, ap, ap₂, ◌∙◌}
-use Prim.Native.Nat.{ℕ, ◌+◌, ◌*◌, ◌/◌, ◌%◌, ◌≤◌, ◌<◌}
+use Prim.Native.Nat.{ℕ, ◌+◌, ◌*◌, ◌/◌, ◌%◌, ◌<◌}
 use native.Mathlib.Nat.{mod-lt, div-add-mod', div-lt_iff_lt-mul}
 use native.Mathlib.Omega.{arith}
 use lib.Arith.{digits_div, digits_mod}
@@ -12,16 +12,15 @@ use lib.Dec.{ltb, ltb→lt}
 use lib.ListN.{length, get_or, drop}
 use lib.Seq.{get_or-take, get_or-drop}
 use Rattle.bits.specs.Bits.{bit_of, bytes_of}
-use Rattle.bits.specs.Lists.{written}
 use Rattle.bits.proofs.NumberLaws.{row_within}
 use Rattle.bits.proofs.BitLaws.{same_bits, bytes_bits}
 use Rattle.bits.proofs.ListLaws.{written-ext, written-put}
 use Rattle.bits.proofs.RangeLaws.{at_each}
 use Rattle.refusal.specs.declared.Refusal.{Refusal}
 use Rattle.refusal.specs.declared.Refusal.TheVariants.{Majority, Parity}
-use Rattle.refusal.specs.Report.{Report, done, refused, refusal}
-use Rattle.refusal.specs.Outcome.{Row, first_applicable, reported, outcome_by, blockwise, Outcome}
-use Rattle.refusal.proofs.OutcomeLaws.{NoneApplies, done-same, reported-done, reported-good, outcome-by-good, none-blockwise, blockwise-refused, blockwise-ext}
+use Rattle.refusal.specs.Report.{Report, done, refused, refusal, number}
+use Rattle.refusal.specs.Outcome.{Row, first_applicable, reported}
+use Rattle.refusal.proofs.OutcomeLaws.{NoneApplies, done-same, reported-done, reported-good}
 use Rattle.card.specs.Modes.{block_bytes, Defined}
 use Rattle.scrambler.specs.Scrambler.{scrambled}
 use Rattle.scrambler.proofs.ScramblerLaws.{scrambled-at, scrambled-twice, block-binary}
@@ -30,7 +29,9 @@ use Rattle.fec.specs.Coding.{data_bits, coded_bit}
 use Rattle.fec.proofs.CodingLaws.{coded-binary}
 use Rattle.recovery.specs.Recovery.{data_bit, first_undecided, disagreeing}
 use Rattle.recovery.proofs.RecoveryLaws.{clean-data, clean-rows, data-ext, rows_ext}
+use Rattle.payload_blocks.specs.Blockwise.{outcome_by, blockwise}
 use Rattle.payload_blocks.specs.Blocks.{block_of, block_bit, joined_bit, bits_of_block, bytes_found, block_rows, found, payload_found, recovered_all}
+use Rattle.payload_blocks.proofs.BlockwiseLaws.{refused-over, done-over, outcome-by-good, none-blockwise, blockwise-refused, blockwise-ext}
 
 -- ---- parts of a list
 
@@ -71,7 +72,7 @@ module _ (kind rate : ℕ) (D : Defined kind rate) (e f : ℕ → ℕ) where
         same_bits (block_bytes kind) _ _ (λ k h. scrambled-at _ _ k (data-ext kind rate D (bits_of_block kind rate e b) (bits_of_block kind rate f b) same k h))
 
     block-rows-ext : (taps : ℕ) → block_rows kind rate taps e b ≡ block_rows kind rate taps f b
-    block-rows-ext taps = rows_ext kind rate D (bits_of_block kind rate e b) (bits_of_block kind rate f b) same taps b
+    block-rows-ext taps = rows_ext kind rate D (bits_of_block kind rate e b) (bits_of_block kind rate f b) same taps
 
     pub found-ext : (taps : ℕ) → found kind rate taps e b ≡ found kind rate taps f b
     unfolding found
@@ -111,10 +112,18 @@ module _ (kind rate : ℕ) (D : Defined kind rate) (taps : ℕ) (e : ℕ → ℕ
   unfolding found
   found-clean =
       reported-good (block_rows kind rate taps e b) (bytes_found kind rate e b)
-      (clean-rows kind rate D taps (scrambled (bit_of block)) (block-binary block (data_bits kind)) (bits_of_block kind rate e b) as-coded b)
+      (clean-rows kind rate D taps (scrambled (bit_of block)) (block-binary block (data_bits kind)) (bits_of_block kind rate e b) as-coded)
       ∙ ap (λ (l : List ℕ). done l) bytes-clean
 
 -- ---- what the findings come to
+
+-- a refusal's report, whatever the answer would have been
+refused-same : Report (List ℕ) → Report ℕ
+refused-same (done l) = done 0
+refused-same (refused n v w) = refused n v w
+
+not-refused : {l : List ℕ} {n v w : ℕ} → done l ≡ refused n v w → ⊥
+not-refused {l} q = cc
 
 module _ (kind rate taps : ℕ) (e : ℕ → ℕ) where
   -- where a block is found to be some bytes, none of its rows applies, and these are the bytes
@@ -149,10 +158,75 @@ module _ (kind rate taps : ℕ) (e : ℕ → ℕ) where
           written-put (n * block_bytes kind) 0 payload out _ (written-ext (n * block_bytes kind) _ (λ i. get_or payload i 0) out at_byte) (sym long)
           ∙ ap (λ (m : ℕ). payload ++ drop m out) long
 
-  -- a block that is refused: by 7 or 8, with itself as second value, and by the first of its rows that applies
+module _ (kind rate taps : ℕ) (e : ℕ → ℕ) where
+  -- what the decided bits come to goes by the rows alone, whatever is lent
+  pub all-refused : (n : ℕ) (was out : List ℕ) (r : Refusal) → (recovered_all kind rate taps n e was).report ≡ refusal r
+      → recovered_all kind rate taps n e out ≡ record { report = refusal r; out = out }
+  unfolding recovered_all
+  all-refused n was out r is =
+      refused-over {A = ℕ} (blockwise n (block_rows kind rate taps e)) was (n * block_bytes kind) (payload_found kind rate n e was) r out (payload_found kind rate n e out) is
+
+  pub all-done : (n : ℕ) (was : List ℕ) (d : ℕ) → (recovered_all kind rate taps n e was).report ≡ done d
+      → NoneApplies (blockwise n (block_rows kind rate taps e)) × (n * block_bytes kind ≡ d)
+  unfolding recovered_all
+  all-done n was d is =
+      done-over (blockwise n (block_rows kind rate taps e)) was (n * block_bytes kind) d (payload_found kind rate n e was) is
+
+  -- no row of any block applies: all bytes are found
+  pub all-good : (n : ℕ) (out : List ℕ) → NoneApplies (blockwise n (block_rows kind rate taps e))
+      → recovered_all kind rate taps n e out ≡ record { report = done (n * block_bytes kind); out = payload_found kind rate n e out }
+  unfolding recovered_all
+  all-good n out none = outcome-by-good (blockwise n (block_rows kind rate taps e)) out (n * block_bytes kind) (payload_found kind rate n e out) none
+
+  module _ {C : Type 0} (d : C) (n b : ℕ) (r : Refusal) where
+    -- no row of a lower block applies, and one of this block does: it decides
+    pub lowest-block : b < n → NoneApplies (blockwise b (block_rows kind rate taps e)) → first_applicable (block_rows kind rate taps e b) refusal (done d) ≡ refusal r
+        → (out : List ℕ) → recovered_all kind rate taps n e out ≡ record { report = refusal r; out = out }
+    unfolding recovered_all
+    lowest-block h lower is out =
+        blockwise-refused (block_rows kind rate taps e) d b r lower is {A = ℕ} n h out (n * block_bytes kind) (payload_found kind rate n e out)
+
+  -- a block that is refused: by 7 or 8, and by the first of its rows that applies
   record Refusing (b k v w : ℕ) : Type 0 where
     cause : Refusal
     decides : first_applicable (block_rows kind rate taps e b) (refusal {A = ℕ}) (done 0) ≡ refusal cause
     reports : refusal {A = ℕ} cause ≡ refused k v w
     number_is : (k ≡ 7) ⊎ (k ≡ 8)
-    block-is : w ≡ b
+
+  refusing : (b k v w : ℕ) → found kind rate taps e b ≡ refused k v w → Refusing b k v w
+  unfolding found refused-same
+  refusing b k v w is =
+      go (ltb (first_undecided kind rate f) (coded_bits kind rate)) (ltb 0 (disagreeing kind rate taps f)) refl refl is
+    where
+      f : ℕ → ℕ
+      f = bits_of_block kind rate e b
+
+      go : (s t : Bool) → ltb (first_undecided kind rate (bits_of_block kind rate e b)) (coded_bits kind rate) ≡ s
+          → ltb 0 (disagreeing kind rate taps (bits_of_block kind rate e b)) ≡ t
+          → cond s (refusal (Majority (first_undecided kind rate (bits_of_block kind rate e b))))
+          (cond t (refusal (Parity (disagreeing kind rate taps (bits_of_block kind rate e b)))) (done (bytes_found kind rate e b)))
+          ≡ refused k v w
+          → Refusing b k v w
+      go true t majority parity q =
+          record {
+            cause = Majority (first_undecided kind rate (bits_of_block kind rate e b));
+            decides = rw majority;
+            reports = ap refused-same q;
+            number_is = inl (sym (ap number q));
+          }
+      go false true majority parity q =
+          record {
+            cause = Parity (disagreeing kind rate taps (bits_of_block kind rate e b));
+            decides = rw (majority, parity);
+            reports = ap refused-same q;
+            number_is = inr (sym (ap number q));
+          }
+      go false false majority parity q = absurd (not-refused q)
+
+  -- the lowest block that is found to be refused decides, by 7 or 8, and all that was lent is kept
+  pub lowest_found : (n b k v w : ℕ) → b < n → ((j : ℕ) → j < b → (l : List ℕ) × (found kind rate taps e j ≡ done l)) → found kind rate taps e b ≡ refused k v w
+      → (out : List ℕ) → ((k ≡ 7) ⊎ (k ≡ 8)) × (recovered_all kind rate taps n e out ≡ record { report = refused k v w; out = out })
+  lowest_found n b k v w h lower is out =
+      let R = refusing b k v w is in
+      let none = none-blockwise (block_rows kind rate taps e) b (λ j l. let (bytes, good) = lower j l in (found-done kind rate taps e j bytes good).0) in
+      (R.number_is, lowest-block 0 n b R.cause h none R.decides out ∙ ap (λ (r : Report ℕ). record { report = r; out = out }) R.reports)

@@ -4,12 +4,13 @@ use Rattle.std.specs.Prelude.{List, [], ℕ, ◌+◌, ◌*◌, ◌/◌, ◌%◌,
 use Rattle.bits.specs.Bits.{bit_of, bytes_of}
 use Rattle.bits.specs.Lists.{written}
 use Rattle.refusal.specs.Report.{Report}
-use Rattle.refusal.specs.Outcome.{Row, reported, Outcome, outcomeBlockwise}
+use Rattle.refusal.specs.Outcome.{Row, reported, Outcome}
 use Rattle.card.specs.Modes.{block_bytes}
 use Rattle.scrambler.specs.Scrambler.{scrambled}
 use Rattle.interleaver_shape.specs.Shapes.{coded_bits}
 use Rattle.fec.specs.Coding.{coded_bit}
 use Rattle.recovery.specs.Recovery.{data_bit, recover_rows}
+use Rattle.payload_blocks.specs.Blockwise.{outcome_blockwise}
 
 -- ---- going out
 
@@ -36,9 +37,9 @@ bits_of_block kind rate e b i = e (b * coded_bits kind rate + i)
 unfoldable pub bytes_found : ℕ → ℕ → (ℕ → ℕ) → ℕ → List ℕ
 bytes_found kind rate e b = bytes_of (block_bytes kind) (scrambled (data_bit kind rate (bits_of_block kind rate e b)))
 
--- the rows about it: 7 with the lowest of its bits that has no majority, counted in the block, and 8; both with the block
+-- the rows about it: 7 with the lowest of its bits that has no majority, counted in the block, and 8
 abbrev pub block_rows : ℕ → ℕ → ℕ → (ℕ → ℕ) → ℕ → List Row
-block_rows kind rate taps e b = recover_rows kind rate taps b (bits_of_block kind rate e b)
+block_rows kind rate taps e b = recover_rows kind rate taps (bits_of_block kind rate e b)
 
 -- its own finding: its bytes, 7 or 8
 unfoldable pub found : ℕ → ℕ → ℕ → (ℕ → ℕ) → ℕ → Report (List ℕ)
@@ -52,4 +53,4 @@ payload_found kind rate n e out =
 -- what n blocks come to: the lowest that has 7 or 8 is the answer, and all is kept; otherwise all their bytes
 unfoldable pub recovered_all : ℕ → ℕ → ℕ → ℕ → (ℕ → ℕ) → List ℕ → Outcome ℕ (List ℕ)
 recovered_all kind rate taps n e out =
-    outcomeBlockwise [] n (block_rows kind rate taps e) out (n * block_bytes kind) (payload_found kind rate n e out)
+    outcome_blockwise [] n (block_rows kind rate taps e) out (n * block_bytes kind) (payload_found kind rate n e out)

@@ -1,5 +1,5 @@
 // The blocks of a payload, one to four of one kind. Going out each is scrambled and coded by itself, and the coded bits are joined. Coming
-// back each is recovered from its own part of the decided bits, and all are given or none.
+// back each is recovered from its own part of the decided bits, and all are given or none. A refusal does not say which block it is of.
 //
 // Internal: nothing here is a public entry, and callers show what a function requires.
 #![tactic(auto)]
@@ -69,7 +69,7 @@ fn recover_scrambled(
     let mut b: usize = 0;
     while b < blocks {
         let end = from + count;
-        match recovery::recover(kind, rate, taps, b, &decided[from..end], &mut bytes[at..]) {
+        match recovery::recover(kind, rate, taps, &decided[from..end], &mut bytes[at..]) {
             Answer::Refused(r) => return Answer::Refused(r),
             Answer::Done(_) => {
                 from = end;
