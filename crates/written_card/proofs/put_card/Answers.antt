@@ -4,6 +4,9 @@ use mathlib.Core.Bool.{Bool}
 use lib.Dec.{ltb}
 use lib.ListN.{length}
 use borrow.Author.Tests.{ltb-false, lt-ltb, le-ltb}
+use Rattle.refusal.specs.declared.Refusal.TheVariants.{Room}
+use Rattle.refusal.specs.declared.Answer.TheVariants.{Refused}
+use Rattle.refusal.specs.Report.{answer}
 use Rattle.card.specs.Card.{card_bytes}
 use Rattle.written_card.specs.Loops.Fields.{put_card}
 use Rattle.written_card.proofs.RowLaws.{put-short, said}
@@ -19,7 +22,7 @@ pub returns-then-short : goal.returns-then-short
 returns-then-short c =
     let law = put-short _ _ (short-is (goal.at.returns-then-short c).After-card_bytes-bytes _ (lt-ltb _ _ c.if-short.true)) in
     record {
-      answer = rw c.card_bytes-bytes.ensures (sym (ap (λ o. o.report) law));
+      answer = ap (λ n. answer (Refused (Room n))) c.card_bytes-bytes.ensures ∙ sym (ap (λ o. o.report) law);
       bytes = sym (ap (λ o. o.out) law);
     }
 
