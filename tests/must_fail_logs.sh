@@ -4,8 +4,9 @@
 #   rt: must-fail CRATE/LABEL.edit: refused, as it must be: FIRST ERROR
 # with the first error of its check, as far as 160 characters go. Fails on an edit without such a line, on one that could not be tried or is
 # still proved, and on a first error that shows nothing of the edited program: a name that is not there, a field or an argument that a proof
-# no longer has, a rewrite that finds nothing, a type of another kind than the proof was written for, a limit of the prover, or a fact that
-# is true. Crates may be named behind the file; all of them otherwise.
+# no longer has, a rewrite that finds nothing, a type of another kind than the proof was written for, or a fact that is true. A goal that the
+# search leaves open is a fact that fails, also where it stopped at one of its limits. Crates may be named behind the file; all of them
+# otherwise.
 set -u
 if [ $# -eq 0 ] || ! [ -f "$1" ]; then
   echo 'usage: tests/must_fail_logs.sh FILE [CRATE..], where FILE has what rt ci or rt must-fail printed' >&2

@@ -90,7 +90,7 @@ same() {
   fi
 }
 
-matrices=$(sed -nE 's/^matrix kind = [a-z_]+ \((.*) ∷ \[\]\) kind \[\]$/\1/p' crates/constituent/specs/*.antt)
+matrices=$(sed -nE 's/^matrix kind = get_or \((.*) ∷ \[\]\) kind \[\]$/\1/p' crates/constituent/specs/*.antt)
 read -ra matrix <<< "${matrices//∷/}"
 read -ra offset <<< "$(numbers interleaver_shape offsets)"
 read -ra step <<< "$(numbers interleaver_shape steps)"
@@ -107,8 +107,8 @@ for bytes in 16 72 136 264 520; do
 done
 same 'offset at 16/18' "$(row '| 520 | 16/18 |' 4)" "${offset[5]}"
 same 'step at 16/18' "$(row '| 520 | 16/18 |' 5)" "${step[5]}"
-pattern=$(sed -nE 's/^pattern rate = [a-z_]+ \(0b1{16} ∷ 0b([01]{16}) ∷ \[\]\) rate( 0)?$/\1/p' crates/turbo/specs/Puncture.antt)
-times=$(sed -nE 's/^pub kept_at : .*t % 16[^0-9]+([0-9]+)[^0-9]+t % 16[^0-9]+([0-9]+)\)$/\1 or \2/p' crates/turbo/proofs/PunctureLaws.antt)
+pattern=$(sed -nE 's/^pattern rate = get_or \(0b1{16} ∷ 0b([01]{16}) ∷ \[\]\) rate 0$/\1/p' crates/turbo/specs/Puncture.antt)
+times=$(sed -nE 's/^pub kept_at : .*eqb .t % 16. ([0-9]+) .. eqb .t % 16. ([0-9]+)\)$/\1 or \2/p' crates/turbo/proofs/PunctureLaws.antt)
 same 'the puncturing row of docs/RULES.md' "$(found docs/RULES.md 'at the ones of ([01]+) read from the right,')" "$pattern"
 same 'the kept times of docs/RULES.md' "$(found docs/RULES.md 'so t mod 16 is ([0-9]+ or [0-9]+) \(D7\)')" "$times"
 same 'the kept bits of docs/RULES.md' "$(found docs/RULES.md '\(D7\); ([0-9]+) parity bits remain')" \
@@ -192,7 +192,7 @@ same 'the unused carriers of docs/DECISIONS.md' "$(found docs/DECISIONS.md 'Thei
   "$(unused 1) with ${copies[1]} or ${copies[2]} copies; $(unused 3) with ${copies[3]}; $(unused 4) with ${copies[4]}; $(unused 5) with ${copies[5]}"
 same 'HPLC_PAYLOAD_ITEMS_MAX' "$(sed -n 's/^#define HPLC_PAYLOAD_ITEMS_MAX //p' include/hplc.h)" "$longest"
 same 'the lengths of a card in include/hplc.h' "$(sed -nE 's/^#define HPLC_CARD_(2_)?BYTES //p' include/hplc.h | xargs)" \
-  "$(sed -nE 's/^card_bytes version = cond \([^()]*\) ([0-9]+) ([0-9]+)$/\2 \1/p' crates/card/specs/Card.antt)"
+  "$(sed -nE 's/^card_bytes version = cond \(eqb version 2\) ([0-9]+) ([0-9]+)$/\2 \1/p' crates/card/specs/Card.antt)"
 same 'HPLC_CARD_TEXT_MAX' "$(sed -n 's/^#define HPLC_CARD_TEXT_MAX //p' include/hplc.h)" "$(number printed_card 'longest = ')"
 requests=(docs/changes/T-*.md)
 requests=("${requests[@]##*/}")
