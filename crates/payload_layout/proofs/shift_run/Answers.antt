@@ -13,25 +13,25 @@ overflow_mul-copies c =
 
 pub returns-then-last-copies : goal.returns-then-last-copies
 unfolding shift_run
-returns-then-last-copies c = rw (ne_eqb _ 4 c.if-copies-ne4.true, le-leb _ _ c.if-last-copies.true)
+returns-then-last-copies c = rw (ne_eqb c.args.copies 4 (λ e. omega arith), le-leb _ _ c.if-last-copies.true)
 
 pub returns-else-last-copies : goal.returns-else-last-copies
 unfolding shift_run
-returns-else-last-copies c = rw (ne_eqb _ 4 c.if-copies-ne4.true, lt-leb _ _ c.if-last-copies.false)
+returns-else-last-copies c = rw (ne_eqb c.args.copies 4 (λ e. omega arith), lt-leb _ _ c.if-last-copies.false)
 
 pub returns-then-last-group : goal.returns-then-last-group
 unfolding shift_run
-returns-then-last-group c = rw (eq-eqb _ 4 c.if-copies-ne4.false, le-leb _ _ c.if-last-group.true)
+returns-then-last-group c = rw (eq-eqb c.args.copies 4 (omega arith), le-leb _ _ c.if-last-group.true)
 
 pub returns-then-last-group-2 : goal.returns-then-last-group-2
 unfolding shift_run
-returns-then-last-group-2 c = rw (eq-eqb _ 4 c.if-copies-ne4.false, lt-leb _ _ c.if-last-group.false, le-leb _ _ c.if-last-group-2.true)
+returns-then-last-group-2 c = rw (eq-eqb c.args.copies 4 (omega arith), lt-leb _ _ c.if-last-group.false, le-leb _ _ c.if-last-group-2.true)
 
 pub returns-then-last-group-3 : goal.returns-then-last-group-3
 unfolding shift_run
 returns-then-last-group-3 c =
     rw (
-      eq-eqb _ 4 c.if-copies-ne4.false,
+      eq-eqb c.args.copies 4 (omega arith),
       lt-leb _ _ c.if-last-group.false,
       lt-leb _ _ c.if-last-group-2.false,
       le-leb _ _ c.if-last-group-3.true,
@@ -41,7 +41,7 @@ pub returns-else-last-group-3 : goal.returns-else-last-group-3
 unfolding shift_run
 returns-else-last-group-3 c =
     rw (
-      eq-eqb _ 4 c.if-copies-ne4.false,
+      eq-eqb c.args.copies 4 (omega arith),
       lt-leb _ _ c.if-last-group.false,
       lt-leb _ _ c.if-last-group-2.false,
       lt-leb _ _ c.if-last-group-3.false,

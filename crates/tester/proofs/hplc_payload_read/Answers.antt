@@ -1,7 +1,0 @@
--- `tester::hplc_payload_read` meets its contract. Assumes nothing.
-use Rattle.tester.proofs.CallLaws.{returned}
-use Rattle.tester.proofs.hplc_payload_read.Goals as goal
-
-pub returns : goal.returns
-returns c =
-    returned _ c.read-answer.result _ _ _ c.read-answer.ensures.answer (search (c.read-answer.ensures)) c.report.ensures.number c.report.ensures.values
