@@ -8,6 +8,8 @@ use lib.Bits.{bit_xor, xor_self, xor_mod, xor_shr}
 use lib.Dec.{lit<}
 use lib.ListN.{get_or}
 use lib.Pow.{pow_mono, pow-add, shr-shr}
+use mir.Syntax.{w8}
+use mir.Val.{Fits}
 use Rattle.bits.specs.Bits.{bit_of}
 use Rattle.bits.specs.Lists.{tabulate}
 use Rattle.bits.proofs.ListLaws.{get_or-tabulate}
@@ -29,6 +31,13 @@ word-zero taps = sym (word-parts taps 0 0 (lit< tt) ∙ xor_self (byte_word taps
 pub word_lt : (taps s b : ℕ) → s < 8 → byte_word taps s b < 65536
 unfolding byte_word
 word_lt taps s b h = omega (arith, few-parities taps (pair_in b) s 4 (omega arith), state-lt taps (pair_in b) s h 4)
+
+-- a byte numbers an entry of a table, and what it reads there
+pub entry-lt : {x b : ℕ} → x ≡ b → Fits w8 b → x < 256
+entry-lt e f = omega (arith, e, f)
+
+pub entry-at : (taps : ℕ) (table : List ℕ) {x b : ℕ} → ByBytes taps table → x ≡ b → Fits w8 b → get_or table x 0 ≡ byte_word taps 0 b
+entry-at taps table words e f = words _ (entry-lt e f) ∙ ap (byte_word taps 0) e
 
 -- half of a table of 256 entries
 pub half_le : (taps half : ℕ) (table : List ℕ) → Doubling taps half table → half ≤ 128

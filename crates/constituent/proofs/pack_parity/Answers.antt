@@ -3,19 +3,19 @@
 use mathlib.Core.Path.{◌≡◌, refl, ap, ◌∙◌}
 use Prim.Native.Nat.{ℕ, ◌+◌, ◌*◌, ◌≤◌, ◌<◌}
 use native.Mathlib.Omega.{arith}
-use lib.ListN.{get_or, length-set}
+use lib.ListN.{length-set}
 use borrow.Author.Rules.{rules}
 use Rattle.bits.specs.Bits.{bit_of}
 use Rattle.bits.proofs.ListLaws.{written_none, written_next, written_all}
 use Rattle.constituent.specs.Encoder.{state_at, parity_at}
 use Rattle.constituent.specs.Pairs.{pair_at}
-use Rattle.constituent.specs.Loops.Bytes.{byte_word, four_from}
+use Rattle.constituent.specs.Loops.Bytes.{four_from}
 use Rattle.constituent.proofs.StateLaws.{ring-lt, parity-lt}
-use Rattle.constituent.proofs.ByteLaws.{state-turn, parity-turn}
+use Rattle.constituent.proofs.ByteLaws.{entry-lt, entry-at, state-turn, parity-turn}
 use Rattle.constituent.proofs.PassLaws.{four-by, multiplexed-byte}
 use Rattle.constituent.proofs.pack_parity.Invariants.{Walk}
 use Rattle.constituent.proofs.pack_parity.Goals as goal
-use Rattle.constituent.proofs.pack_parity.Goals.{After-given, After-given-in-loop-i, After-way_told-1, After-wide, After-wide-in-loop-i, Start}
+use Rattle.constituent.proofs.pack_parity.Goals.{After-given, After-given-in-loop-i, Start}
 
 given-lt : (kind taps : ℕ) (p : ℕ → ℕ) (i r : ℕ) → r ≡ four_from (parity_at kind taps p) i → r ≤ 85
 given-lt kind taps p i r e =
@@ -37,57 +37,19 @@ first-lt c = rw c.requires.started.0.one (ring-lt _ _ _ c.requires.blocks.define
 second_lt : (c : Start) → c.args.from.second < 8
 second_lt c = rw c.requires.started.0.two (ring-lt _ _ _ c.requires.blocks.defined)
 
--- the table has an entry for every byte
-byte-lt : (c : After-wide) → c.wide.result < 256
-byte-lt c = omega (arith, c.wide.ensures, c.type_inv.bytes c.loop-i.i)
-
--- the table has an entry for every byte
-byte-lt-at-After-way_told-1 : (c : After-way_told-1) → c.wide.result < 256
-byte-lt-at-After-way_told-1 c = omega (arith, c.wide.ensures, c.type_inv.bytes c.loop-i.i)
-
--- the table has an entry for every byte
-byte-lt-at-After-given : (c : After-given) → c.wide.result < 256
-byte-lt-at-After-given c = omega (arith, c.wide.ensures, c.type_inv.bytes c.loop-i.i)
-
-other-lt : (c : After-wide-in-loop-i) → c.wide-in-loop-i.result < 256
-other-lt c = omega (arith, c.wide-in-loop-i.ensures, c.type_inv.second c.loop-i.i)
-
-other-lt-at-After-given-in-loop-i : (c : After-given-in-loop-i) → c.wide-in-loop-i.result < 256
-other-lt-at-After-given-in-loop-i c = omega (arith, c.wide-in-loop-i.ensures, c.type_inv.second c.loop-i.i)
-
--- the entries that a turn reads
-word-one-at-After-way_told-1 : (c : After-way_told-1) (taps : ℕ) → Walk c.args.kind taps c.args.rows.states c.args.rows.parities c.args.table.now c.args.bytes.now c.args.second.now (c.args.from.first * 8) (c.args.from.second * 8)
-    → get_or c.args.table.now c.wide.result 0 ≡ byte_word taps 0 (get_or c.args.bytes.now c.loop-i.i 0)
-word-one-at-After-way_told-1 c taps w = w.words _ (byte-lt-at-After-way_told-1 c) ∙ ap (byte_word taps 0) c.wide.ensures
-
--- the entries that a turn reads
-word-one-at-After-given : (c : After-given) (taps : ℕ) → Walk c.args.kind taps c.args.rows.states c.args.rows.parities c.args.table.now c.args.bytes.now c.args.second.now (c.args.from.first * 8) (c.args.from.second * 8)
-    → get_or c.args.table.now c.wide.result 0 ≡ byte_word taps 0 (get_or c.args.bytes.now c.loop-i.i 0)
-word-one-at-After-given c taps w = w.words _ (byte-lt-at-After-given c) ∙ ap (byte_word taps 0) c.wide.ensures
-
-word_two : (c : After-wide-in-loop-i) (taps : ℕ) → Walk c.args.kind taps c.args.rows.states c.args.rows.parities c.args.table.now c.args.bytes.now c.args.second.now (c.args.from.first * 8) (c.args.from.second * 8)
-    → get_or c.args.table.now c.wide-in-loop-i.result 0
-    ≡ byte_word taps 0 (get_or c.args.second.now c.loop-i.i 0)
-word_two c taps w = w.words _ (other-lt c) ∙ ap (byte_word taps 0) c.wide-in-loop-i.ensures
-
-word_two-at-After-given-in-loop-i : (c : After-given-in-loop-i) (taps : ℕ) → Walk c.args.kind taps c.args.rows.states c.args.rows.parities c.args.table.now c.args.bytes.now c.args.second.now (c.args.from.first * 8) (c.args.from.second * 8)
-    → get_or c.args.table.now c.wide-in-loop-i.result 0
-    ≡ byte_word taps 0 (get_or c.args.second.now c.loop-i.i 0)
-word_two-at-After-given-in-loop-i c taps w = w.words _ (other-lt-at-After-given-in-loop-i c) ∙ ap (byte_word taps 0) c.wide-in-loop-i.ensures
-
 -- the parity bits that a turn gives
 gives_one : (c : After-given) (taps : ℕ)
     → Walk c.args.kind taps c.args.rows.states c.args.rows.parities c.args.table.now c.args.bytes.now c.args.second.now (c.args.from.first * 8) (c.args.from.second * 8) → c.given.result ≡ four_from (parity_at c.args.kind taps (pair_at (bit_of c.args.bytes.now))) c.loop-i.i
 gives_one c taps w =
     c.given.ensures
-    ∙ parity-turn taps _ _ (ring-lt _ _ _ c.requires.blocks.defined) c.loop-i.i _ _ _ w.gives (c.loop-i.invariant.4 taps w).0 (word-one-at-After-given c taps w)
+    ∙ parity-turn taps _ _ (ring-lt _ _ _ c.requires.blocks.defined) c.loop-i.i _ _ _ w.gives (c.loop-i.invariant.4 taps w).0 (entry-at taps _ w.words c.wide.ensures (c.type_inv.bytes c.loop-i.i))
     ∙ four-by c.args.kind taps c.args.bytes.now c.loop-i.i
 
 gives-two : (c : After-given-in-loop-i) (taps : ℕ)
     → Walk c.args.kind taps c.args.rows.states c.args.rows.parities c.args.table.now c.args.bytes.now c.args.second.now (c.args.from.first * 8) (c.args.from.second * 8) → c.given-in-loop-i.result ≡ four_from (parity_at c.args.kind taps (pair_at (bit_of c.args.second.now))) c.loop-i.i
 gives-two c taps w =
     c.given-in-loop-i.ensures
-    ∙ parity-turn taps _ _ (ring-lt _ _ _ c.requires.blocks.defined) c.loop-i.i _ _ _ w.gives (c.loop-i.invariant.4 taps w).1 (word_two-at-After-given-in-loop-i c taps w)
+    ∙ parity-turn taps _ _ (ring-lt _ _ _ c.requires.blocks.defined) c.loop-i.i _ _ _ w.gives (c.loop-i.invariant.4 taps w).1 (entry-at taps _ w.words c.wide-in-loop-i.ensures (c.type_inv.second c.loop-i.i))
     ∙ four-by c.args.kind taps c.args.second.now c.loop-i.i
 
 pub overflow_cast-a : goal.overflow_cast-a
@@ -108,20 +70,20 @@ loop-i-init c =
     (search rules, omega (arith, first-lt (goal.at.loop-i-init c).Start), omega (arith, second_lt (goal.at.loop-i-init c).Start), refl, λ taps w. (w.first, w.second, written_none _ _))
 
 pub offset_bounds-table-wide : goal.offset_bounds-table-wide
-offset_bounds-table-wide c = omega (arith, byte-lt c)
+offset_bounds-table-wide c = omega (arith, entry-lt c.wide.ensures (c.type_inv.bytes c.loop-i.i))
 
 pub bounds-table-wide : goal.bounds-table-wide
-bounds-table-wide c = byte-lt-at-After-way_told-1 c
+bounds-table-wide c = entry-lt c.wide.ensures (c.type_inv.bytes c.loop-i.i)
 
 pub bounds-second-i : goal.bounds-second-i
 bounds-second-i c =
     omega (arith, c.loop-i-test.true, c.requires.blocks.whole, c.requires.blocks.room)
 
 pub offset_bounds-table-wide-in-loop-i : goal.offset_bounds-table-wide-in-loop-i
-offset_bounds-table-wide-in-loop-i c = omega (arith, other-lt c)
+offset_bounds-table-wide-in-loop-i c = omega (arith, entry-lt c.wide-in-loop-i.ensures (c.type_inv.second c.loop-i.i))
 
 pub bounds-table-wide-in-loop-i : goal.bounds-table-wide-in-loop-i
-bounds-table-wide-in-loop-i c = other-lt c
+bounds-table-wide-in-loop-i c = entry-lt c.wide-in-loop-i.ensures (c.type_inv.second c.loop-i.i)
 
 pub given-requires : goal.given-requires
 given-requires c = c.loop-i.invariant.1
@@ -156,8 +118,8 @@ loop-i-preserved c = (
   simp length-set c.loop-i.invariant.3,
   λ taps w.
       let s = c.loop-i.invariant.4 taps w in (
-        c.moved-a.ensures ∙ state-turn taps _ _ (ring-lt _ _ _ c.requires.blocks.defined) c.loop-i.i _ _ _ w.after s.0 (word-one-at-After-way_told-1 (goal.at.loop-i-preserved c).After-way_told-1 taps w),
-        c.moved-b.ensures ∙ state-turn taps _ _ (ring-lt _ _ _ c.requires.blocks.defined) c.loop-i.i _ _ _ w.after s.1 (word_two (goal.at.loop-i-preserved c).After-wide-in-loop-i taps w),
+        c.moved-a.ensures ∙ state-turn taps _ _ (ring-lt _ _ _ c.requires.blocks.defined) c.loop-i.i _ _ _ w.after s.0 (entry-at taps _ w.words c.wide.ensures (c.type_inv.bytes c.loop-i.i)),
+        c.moved-b.ensures ∙ state-turn taps _ _ (ring-lt _ _ _ c.requires.blocks.defined) c.loop-i.i _ _ _ w.after s.1 (entry-at taps _ w.words c.wide-in-loop-i.ensures (c.type_inv.second c.loop-i.i)),
         written_next _ _ _ _ _ s.2 (omega (arith, c.loop-i-test.true, c.requires.blocks.whole, c.requires.started.1)) (multiplexed-byte _ _ _ _ c.loop-i.i _ _ (gives_one (goal.at.loop-i-preserved c).After-given taps w) (gives-two (goal.at.loop-i-preserved c).After-given-in-loop-i taps w)),
       ),
 )

@@ -20,22 +20,14 @@ row_of c =
     let l = c.args.l in
     row-at l.rows l.step c.requires.0.sound.step-pos (data_place l c.loop-row.at.nibble) c.args.pass c.loop-row.row c.loop-row.invariant.0 c.requires.2.pass-lt c.loop-row-test.true
 
--- the row of the data nibble that comes next
-row_of-at-After-move_parity-data : (c : After-move_parity-data)
-    → (pass_row c.args.l.rows c.args.l.step (data_place c.args.l c.loop-row.at.nibble) ≡ c.loop-row.row)
-    × (data_place c.args.l c.loop-row.at.nibble < c.args.l.rows)
-row_of-at-After-move_parity-data c =
-    let l = c.args.l in
-    row-at l.rows l.step c.requires.0.sound.step-pos (data_place l c.loop-row.at.nibble) c.args.pass c.loop-row.row c.loop-row.invariant.0 c.requires.2.pass-lt c.loop-row-test.true
-
 -- past the parity nibble stands that data nibble
-data_of : (c : After-move_parity-data)
+data_of : (c : After-move_parity-data) → data_place c.args.l c.loop-row.at.nibble < c.args.l.rows
     → (data_place c.args.l c.move_parity-data.result.nibble ≡ data_place c.args.l c.loop-row.at.nibble)
     × (c.move_parity-data.result.nibble < c.args.l.rows + c.args.l.parity)
-data_of c =
+data_of c row =
     let l = c.args.l in
     let e = parity-passed l c.requires.0.sound c.loop-row.at.nibble c.move_parity-data.result.nibble c.move_parity-data.ensures.stands.0 in
-    (e, stream-on l c.requires.0.sound c.move_parity-data.result.nibble (omega (arith, e, (row_of-at-After-move_parity-data c).1)))
+    (e, stream-on l c.requires.0.sound c.move_parity-data.result.nibble (omega (arith, e, row)))
 
 -- how far the data nibbles reach before the next parity nibble
 reach-le : (c : After-move_parity-data)
@@ -72,7 +64,7 @@ overflow_add-row c =
 pub move_data-last-requires : goal.move_data-last-requires
 move_data-last-requires c =
     let l = c.args.l in
-    let (place, n) = data_of (goal.at.move_data-last-requires c).After-move_parity-data in (
+    let (place, n) = data_of (goal.at.move_data-last-requires c).After-move_parity-data (row_of (goal.at.move_data-last-requires c).In-loop-row).1 in (
       moving-on c.requires.0 (c.move_parity-data.auto.to ∙ c.loop-row.invariant.3),
       record {
         pass-lt = c.requires.2.pass-lt;
@@ -85,7 +77,7 @@ move_data-last-requires c =
 
 pub overflow_add-at : goal.overflow_add-at
 overflow_add-at c =
-    omega (arith, (reach-le (goal.at.overflow_add-at c).After-move_parity-data).1, (data_of (goal.at.overflow_add-at c).After-move_parity-data).1, c.requires.0.small)
+    omega (arith, (reach-le (goal.at.overflow_add-at c).After-move_parity-data).1, (data_of (goal.at.overflow_add-at c).After-move_parity-data (row_of (goal.at.overflow_add-at c).In-loop-row).1).1, c.requires.0.small)
 
 pub overflow_sub-at : goal.overflow_sub-at
 overflow_sub-at c =

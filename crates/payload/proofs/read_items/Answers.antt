@@ -22,17 +22,10 @@ recovered-is c =
     let law = decided-recovered c.args.l c.args.kind c.args.rate c.args.taps c.requires.0 c.args.items.now _ _ (replicate 520 0) c.decide.ensures in
     (c.recover.ensures.answer ∙ ap (λ (q : Outcome ℕ (List ℕ)). q.report) law, c.recover.ensures.bytes ∙ ap (λ (q : Outcome ℕ (List ℕ)). q.out) law)
 
--- what is recovered from the array is what is recovered from the decided bits
-recovered-is-at-In-Done : (c : In-Done)
-    → (answer c.recover.result ≡ (recovered c.args.kind c.args.rate c.args.taps (decided_bit c.args.l c.args.items.now) (replicate 520 0)).report)
-    × (c.recover.new.out ≡ (recovered c.args.kind c.args.rate c.args.taps (decided_bit c.args.l c.args.items.now) (replicate 520 0)).out)
-recovered-is-at-In-Done c =
-    let law = decided-recovered c.args.l c.args.kind c.args.rate c.args.taps c.requires.0 c.args.items.now _ _ (replicate 520 0) c.decide.ensures in
-    (c.recover.ensures.answer ∙ ap (λ (q : Outcome ℕ (List ℕ)). q.report) law, c.recover.ensures.bytes ∙ ap (λ (q : Outcome ℕ (List ℕ)). q.out) law)
-
 done-is : (c : In-Done)
+    → answer c.recover.result ≡ (recovered c.args.kind c.args.rate c.args.taps (decided_bit c.args.l c.args.items.now) (replicate 520 0)).report
     → (recovered c.args.kind c.args.rate c.args.taps (decided_bit c.args.l c.args.items.now) (replicate 520 0)).report ≡ done c.in-Done.size
-done-is c = sym (recovered-is-at-In-Done c).0 ∙ ap answer c.in-Done.is
+done-is c is = sym is ∙ ap answer c.in-Done.is
 
 pub decide-requires : goal.decide-requires
 decide-requires c =
@@ -52,15 +45,15 @@ recover-requires c =
 
 pub slice_bounds-block-end : goal.slice_bounds-block-end
 slice_bounds-block-end c =
-    block_room c.args.kind c.args.rate c.args.taps c.requires.0.defined (decided_bit c.args.l c.args.items.now) (replicate 520 0) _ c.in-Done.size (done-is (goal.at.slice_bounds-block-end c).In-Done) (recovered-is (goal.at.slice_bounds-block-end c).After-recover).1
+    block_room c.args.kind c.args.rate c.args.taps c.requires.0.defined (decided_bit c.args.l c.args.items.now) (replicate 520 0) _ c.in-Done.size (done-is (goal.at.slice_bounds-block-end c).In-Done (recovered-is (goal.at.slice_bounds-block-end c).After-recover).0) (recovered-is (goal.at.slice_bounds-block-end c).After-recover).1
 
 pub slice_bounds-scramble-end : goal.slice_bounds-scramble-end
 slice_bounds-scramble-end c =
-    sym (block-length c.args.kind c.args.rate c.args.taps c.requires.0.defined (decided_bit c.args.l c.args.items.now) (replicate 520 0) _ c.in-Done.size (done-is (goal.at.slice_bounds-scramble-end c).In-Done) (recovered-is (goal.at.slice_bounds-scramble-end c).After-recover).1)
+    sym (block-length c.args.kind c.args.rate c.args.taps c.requires.0.defined (decided_bit c.args.l c.args.items.now) (replicate 520 0) _ c.in-Done.size (done-is (goal.at.slice_bounds-scramble-end c).In-Done (recovered-is (goal.at.slice_bounds-scramble-end c).After-recover).0) (recovered-is (goal.at.slice_bounds-scramble-end c).After-recover).1)
 
 pub scramble-requires : goal.scramble-requires
 scramble-requires c =
-    omega (arith, block-length c.args.kind c.args.rate c.args.taps c.requires.0.defined (decided_bit c.args.l c.args.items.now) (replicate 520 0) _ c.in-Done.size (done-is (goal.at.scramble-requires c).In-Done) (recovered-is (goal.at.scramble-requires c).After-recover).1, block_size c.args.kind c.args.rate c.args.taps c.requires.0.defined (decided_bit c.args.l c.args.items.now) (replicate 520 0) _ c.in-Done.size (done-is (goal.at.scramble-requires c).In-Done) (recovered-is (goal.at.scramble-requires c).After-recover).1, c.requires.2)
+    omega (arith, block-length c.args.kind c.args.rate c.args.taps c.requires.0.defined (decided_bit c.args.l c.args.items.now) (replicate 520 0) _ c.in-Done.size (done-is (goal.at.scramble-requires c).In-Done (recovered-is (goal.at.scramble-requires c).After-recover).0) (recovered-is (goal.at.scramble-requires c).After-recover).1, block_size c.args.kind c.args.rate c.args.taps c.requires.0.defined (decided_bit c.args.l c.args.items.now) (replicate 520 0) _ c.in-Done.size (done-is (goal.at.scramble-requires c).In-Done (recovered-is (goal.at.scramble-requires c).After-recover).0) (recovered-is (goal.at.scramble-requires c).After-recover).1, c.requires.2)
 
 pub returns-in-Refused : goal.returns-in-Refused
 returns-in-Refused c =
@@ -74,6 +67,6 @@ returns-in-Refused c =
 pub returns-in-Done : goal.returns-in-Done
 returns-in-Done c =
     record {
-      answer = block-report c.args.kind c.args.rate c.args.taps c.requires.0.defined (decided_bit c.args.l c.args.items.now) (replicate 520 0) _ c.in-Done.size (done-is (goal.at.returns-in-Done c).In-Done) (recovered-is (goal.at.returns-in-Done c).After-recover).1 c.args.out.now;
-      bytes = c.scramble.ensures ∙ block_out c.args.kind c.args.rate c.args.taps c.requires.0.defined (decided_bit c.args.l c.args.items.now) (replicate 520 0) _ c.in-Done.size (done-is (goal.at.returns-in-Done c).In-Done) (recovered-is (goal.at.returns-in-Done c).After-recover).1 c.args.out.now;
+      answer = block-report c.args.kind c.args.rate c.args.taps c.requires.0.defined (decided_bit c.args.l c.args.items.now) (replicate 520 0) _ c.in-Done.size (done-is (goal.at.returns-in-Done c).In-Done (recovered-is (goal.at.returns-in-Done c).After-recover).0) (recovered-is (goal.at.returns-in-Done c).After-recover).1 c.args.out.now;
+      bytes = c.scramble.ensures ∙ block_out c.args.kind c.args.rate c.args.taps c.requires.0.defined (decided_bit c.args.l c.args.items.now) (replicate 520 0) _ c.in-Done.size (done-is (goal.at.returns-in-Done c).In-Done (recovered-is (goal.at.returns-in-Done c).After-recover).0) (recovered-is (goal.at.returns-in-Done c).After-recover).1 c.args.out.now;
     }

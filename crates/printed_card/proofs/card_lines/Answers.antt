@@ -11,38 +11,27 @@ use Rattle.printed_card.proofs.card_lines.Goals as goal
 use Rattle.printed_card.proofs.card_lines.Goals.{After-with_line-arg-1, After-with_line-taps, After-with_number-arg-1}
 
 -- the text up to the mode's end and the taps' line to come; the text up to the taps' end; and up to the counts' end
-mode-end-at-After-with_line-arg-1 : (c : After-with_line-arg-1) → (c.mode_lines.result.len ≤ 44) × (length (line (ascii "taps") c.tap_digits-digits.result) ≡ 17)
-mode-end-at-After-with_line-arg-1 c =
+mode-end : (c : After-with_line-arg-1) → (c.mode_lines.result.len ≤ 44) × (length (line (ascii "taps") c.tap_digits-digits.result) ≡ 17)
+mode-end c =
     (omega (arith, mode-short c.args.c c.requires), taps-line c.args.c.taps c.tap_digits-digits.result c.tap_digits-digits.ensures)
 
--- the text up to the mode's end and the taps' line to come; the text up to the taps' end; and up to the counts' end
-mode-end-at-After-with_line-taps : (c : After-with_line-taps) → (c.mode_lines.result.len ≤ 44) × (length (line (ascii "taps") c.tap_digits-digits.result) ≡ 17)
-mode-end-at-After-with_line-taps c =
-    (omega (arith, mode-short c.args.c c.requires), taps-line c.args.c.taps c.tap_digits-digits.result c.tap_digits-digits.ensures)
+taps-end : (c : After-with_line-taps) → (c.mode_lines.result.len ≤ 44) × (length (line (ascii "taps") c.tap_digits-digits.result) ≡ 17)
+    → c.with_line-taps.result.len ≤ 61
+taps-end c mode = omega (arith, mode)
 
--- the text up to the mode's end and the taps' line to come; the text up to the taps' end; and up to the counts' end
-mode-end-at-After-with_number-arg-1 : (c : After-with_number-arg-1) → (c.mode_lines.result.len ≤ 44) × (length (line (ascii "taps") c.tap_digits-digits.result) ≡ 17)
-mode-end-at-After-with_number-arg-1 c =
-    (omega (arith, mode-short c.args.c c.requires), taps-line c.args.c.taps c.tap_digits-digits.result c.tap_digits-digits.ensures)
-
-taps-end : (c : After-with_line-taps) → c.with_line-taps.result.len ≤ 61
-taps-end c = omega (arith, mode-end-at-After-with_line-taps c)
-
-taps-end-at-After-with_number-arg-1 : (c : After-with_number-arg-1) → c.with_line-taps.result.len ≤ 61
-taps-end-at-After-with_number-arg-1 c = omega (arith, mode-end-at-After-with_number-arg-1 c)
-
-counts_end-at-After-with_number-arg-1 : (c : After-with_number-arg-1) → c.with_counts-counts.result.len ≤ 80
-counts_end-at-After-with_number-arg-1 c =
-    omega (arith, taps-end-at-After-with_number-arg-1 c, counts-short c.args.c c.requires)
+counts_end : (c : After-with_number-arg-1) → c.with_line-taps.result.len ≤ 61 → c.with_counts-counts.result.len ≤ 80
+counts_end c taps = omega (arith, taps, counts-short c.args.c c.requires)
 
 pub with_line-taps-requires : goal.with_line-taps-requires
-with_line-taps-requires c = omega (arith, mode-end-at-After-with_line-arg-1 (goal.at.with_line-taps-requires c).After-with_line-arg-1)
+with_line-taps-requires c = omega (arith, mode-end (goal.at.with_line-taps-requires c).After-with_line-arg-1)
 
 pub with_counts-counts-requires : goal.with_counts-counts-requires
-with_counts-counts-requires c = (c.requires, taps-end c)
+with_counts-counts-requires c = (c.requires, taps-end c (mode-end (goal.at.with_counts-counts-requires c).After-with_line-arg-1))
 
 pub with_number-requires : goal.with_number-requires
-with_number-requires c = omega (arith, counts_end-at-After-with_number-arg-1 (goal.at.with_number-requires c).After-with_number-arg-1)
+with_number-requires c =
+    let from = goal.at.with_number-requires c in
+    omega (arith, counts_end from.After-with_number-arg-1 (taps-end from.After-with_line-taps (mode-end from.After-with_line-arg-1)))
 
 pub returns : goal.returns
 unfolding card_lines

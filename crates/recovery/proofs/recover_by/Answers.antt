@@ -18,41 +18,25 @@ use Rattle.recovery.proofs.recover_by.Goals.{After-parity_errors-errors, After-t
 size_is : (c : After-take_apart) → c.block_bytes-size.result ≡ block_bytes c.args.kind
 size_is c = c.block_bytes-size.ensures
 
--- the numbers of bytes
-size_is-at-After-parity_errors-errors : (c : After-parity_errors-errors) → c.block_bytes-size.result ≡ block_bytes c.args.kind
-size_is-at-After-parity_errors-errors c = c.block_bytes-size.ensures
-
 kept-is : (c : After-take_apart) → c.kept_count-kept.result / 8 ≡ kept_count c.args.kind c.args.rate / 8
 kept-is c = ap (λ (n : ℕ). n / 8) c.kept_count-kept.ensures
-
-kept-is-at-After-parity_errors-errors : (c : After-parity_errors-errors) → c.kept_count-kept.result / 8 ≡ kept_count c.args.kind c.args.rate / 8
-kept-is-at-After-parity_errors-errors c = ap (λ (n : ℕ). n / 8) c.kept_count-kept.ensures
 
 -- what the buffers hold
 block_held : (c : After-take_apart)
     → Holds (block_bytes c.args.kind) (data_bit c.args.kind c.args.rate (decided_at c.args.decided.now)) c.take_apart.new.block
 block_held c = holds _ _ _ _ c.take_apart.ensures.block
 
--- what the buffers hold
-block_held-at-After-parity_errors-errors : (c : After-parity_errors-errors)
-    → Holds (block_bytes c.args.kind) (data_bit c.args.kind c.args.rate (decided_at c.args.decided.now)) c.take_apart.new.block
-block_held-at-After-parity_errors-errors c = holds _ _ _ _ c.take_apart.ensures.block
-
 parity-held : (c : After-take_apart)
     → Holds (kept_count c.args.kind c.args.rate / 8) (parity_bit c.args.kind c.args.rate (decided_at c.args.decided.now)) c.take_apart.new.parity
 parity-held c = holds _ _ _ _ c.take_apart.ensures.parity
-
-parity-held-at-After-parity_errors-errors : (c : After-parity_errors-errors)
-    → Holds (kept_count c.args.kind c.args.rate / 8) (parity_bit c.args.kind c.args.rate (decided_at c.args.decided.now)) c.take_apart.new.parity
-parity-held-at-After-parity_errors-errors c = holds _ _ _ _ c.take_apart.ensures.parity
 
 -- the count that the code compares with 0 is the one of the definition
 errors : (c : After-parity_errors-errors)
     → c.parity_errors-errors.result ≡ disagreeing c.args.kind c.args.rate c.args.taps (decided_at c.args.decided.now)
 errors c =
     c.parity_errors-errors.ensures
-    ∙ errors-are c.args.kind c.args.rate c.requires.defined.0 _ (decided-binary _ _ _ c.requires.defined.1 c.requires.defined.2) (size_is-at-After-parity_errors-errors c) (kept-is-at-After-parity_errors-errors c)
-    (block_held-at-After-parity_errors-errors c) (parity-held-at-After-parity_errors-errors c) c.args.taps
+    ∙ errors-are c.args.kind c.args.rate c.requires.defined.0 _ (decided-binary _ _ _ c.requires.defined.1 c.requires.defined.2) c.block_bytes-size.ensures (ap (λ (n : ℕ). n / 8) c.kept_count-kept.ensures)
+    (holds _ _ _ _ c.take_apart.ensures.block) (holds _ _ _ _ c.take_apart.ensures.parity) c.args.taps
 
 pub take_apart-requires : goal.take_apart-requires
 take_apart-requires c =
