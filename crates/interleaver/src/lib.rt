@@ -45,12 +45,12 @@ fn moved_row(rows: usize, offset: usize, row: usize) -> usize
 }
 
 // The four bits of nibble n, which is rotated by `rotation` and whose row starts at `first`, from rows to coded bits or back.
-fn move_word(n: usize, rotation: u32, first: usize, back: bool, from: &[u8], to: &mut [u8])
+fn move_word<const BACK: bool>(n: usize, rotation: u32, first: usize, from: &[u8], to: &mut [u8])
     requires { (rotation ≡ n / 2 % 4) × Within n first from.now to.old }
-    ensures { to.new ≡ stored 4 (λ b. cond back (first + column n b) (n * 4 + b))
-        (λ b. get_or from.now (cond back (n * 4 + b) (first + column n b)) 0) to.old }
+    ensures { to.new ≡ stored 4 (λ b. cond BACK (first + column n b) (n * 4 + b))
+        (λ b. get_or from.now (cond BACK (n * 4 + b) (first + column n b)) 0) to.old }
 {
-    if back {
+    if BACK {
         let word = bits::gather(from, n * 4, 1);
         bits::scatter(bits::rotated_back(word, rotation), first, 1, to);
     } else {
@@ -60,24 +60,24 @@ fn move_word(n: usize, rotation: u32, first: usize, back: bool, from: &[u8], to:
 }
 
 // The four bits of nibble n, whose row starts at `first`, from rows to coded bits or back.
-fn move_nibble(n: usize, first: usize, back: bool, from: &[u8], to: &mut [u8])
+fn move_nibble<const BACK: bool>(n: usize, first: usize, from: &[u8], to: &mut [u8])
     requires { Within n first from.now to.old }
-    ensures { to.new ≡ stored 4 (λ b. cond back (first + column n b) (n * 4 + b))
-        (λ b. get_or from.now (cond back (n * 4 + b) (first + column n b)) 0) to.old }
+    ensures { to.new ≡ stored 4 (λ b. cond BACK (first + column n b) (n * 4 + b))
+        (λ b. get_or from.now (cond BACK (n * 4 + b) (first + column n b)) 0) to.old }
 {
-    move_word(n, (n / 2 % 4) as u32, first, back, from, to);
+    move_word::<BACK>(n, (n / 2 % 4) as u32, first, from, to);
 }
 
 // The parity nibble that the joined stream stands at, if it stands at one, and where the stream stands after it.
-fn move_parity(l: Shape, at: Stand, back: bool, from: &[u8], to: &mut [u8]) -> Stand
+fn move_parity<const BACK: bool>(l: Shape, at: Stand, from: &[u8], to: &mut [u8]) -> Stand
     requires { Moving l from.now to.old × Continuous l × Stands l at × (at.nibble < l.rows + l.parity) }
     ensures stands { (result.nibble ≡ at.nibble + cond (is_parity l at.nibble) 1 0) × (Stands l result) × (0 < result.left) }
-    ensures moved { to.new ≡ carried l back from.now at.nibble result.nibble to.old }
+    ensures moved { to.new ≡ carried l BACK from.now at.nibble result.nibble to.old }
 {
     if 0 < at.left {
         return at;
     }
-    move_nibble(at.nibble, (l.rows + at.row) * 4, back, from, to);
+    move_nibble::<BACK>(at.nibble, (l.rows + at.row) * 4, from, to);
     Stand {
         nibble: at.nibble + 1,
         left: l.group,
@@ -86,50 +86,49 @@ fn move_parity(l: Shape, at: Stand, back: bool, from: &[u8], to: &mut [u8]) -> S
 }
 
 // Data nibbles of a pass, as long as the row is below `end`, with no parity nibble among them.
-fn move_data(l: Shape, start: Run, end: usize, back: bool, from: &[u8], to: &mut [u8]) -> Run
+fn move_data<const BACK: bool>(l: Shape, start: Run, end: usize, from: &[u8], to: &mut [u8]) -> Run
     requires { Moving l from.now to.old × DataRun l start end }
     ensures stands { (start.nibble ≤ result.nibble) × (result.nibble ≤ l.rows + l.parity)
         × (OnPass l.rows l.step (data_place l result.nibble) start.pass result.row) × (end ≤ result.row)
         × (parity_place l result.nibble ≡ parity_place l start.nibble)
         × (until_parity l result.nibble + result.nibble ≡ until_parity l start.nibble + start.nibble) }
-    ensures moved { to.new ≡ carried l back from.now start.nibble result.nibble to.old }
+    ensures moved { to.new ≡ carried l BACK from.now start.nibble result.nibble to.old }
 {
     let pass = start.pass;
     let mut nibble = start.nibble;
     let mut row = start.row;
     while row < end {
-        move_nibble(nibble, row * 4, back, from, to);
+        move_nibble::<BACK>(nibble, row * 4, from, to);
         nibble += 1;
         row += l.step;
     }
     Run { nibble, row, pass }
 }
 
-// The lesser of the two.
-fn least(a: usize, b: usize) -> usize
-    ensures { result ≡ min a b }
-{
-    if a < b { a } else { b }
-}
-
 // The data nibbles of a pass, and the parity nibbles before each of them.
-fn move_pass(l: Shape, pass: usize, start: Stand, back: bool, from: &[u8], to: &mut [u8]) -> Stand
+fn move_pass<const BACK: bool>(
+    l: Shape,
+    pass: usize,
+    start: Stand,
+    from: &[u8],
+    to: &mut [u8],
+) -> Stand
     requires { Moving l from.now to.old × Continuous l × BeforePass l pass start }
     ensures stands { (start.nibble ≤ result.nibble) × (Stands l result)
         × (data_place l result.nibble ≡ length (passes l.rows l.step (pass + 1))) }
-    ensures moved { to.new ≡ carried l back from.now start.nibble result.nibble to.old }
+    ensures moved { to.new ≡ carried l BACK from.now start.nibble result.nibble to.old }
 {
     let mut at = start;
     let mut row = pass;
     while row < l.rows {
-        let data = move_parity(l, at, back, from, to);
+        let data = move_parity::<BACK>(l, at, from, to);
         let first = Run {
             nibble: data.nibble,
             row,
             pass,
         };
-        let end = least(l.rows, row + data.left * l.step);
-        let last = move_data(l, first, end, back, from, to);
+        let end = l.rows.min(row + data.left * l.step);
+        let last = move_data::<BACK>(l, first, end, from, to);
         at = Stand {
             nibble: last.nibble,
             left: data.left + data.nibble - last.nibble,
@@ -141,9 +140,9 @@ fn move_pass(l: Shape, pass: usize, start: Stand, back: bool, from: &[u8], to: &
 }
 
 // All nibbles of a shape whose parity rows are read on without a restart.
-fn move_groups(l: Shape, back: bool, from: &[u8], to: &mut [u8])
+fn move_groups<const BACK: bool>(l: Shape, from: &[u8], to: &mut [u8])
     requires { Moving l from.now to.old × Continuous l }
-    ensures { to.new ≡ carried l back from.now 0 (l.rows + l.parity) to.old }
+    ensures { to.new ≡ carried l BACK from.now 0 (l.rows + l.parity) to.old }
 {
     let mut at = Stand {
         nibble: 0,
@@ -152,36 +151,35 @@ fn move_groups(l: Shape, back: bool, from: &[u8], to: &mut [u8])
     };
     let mut pass: usize = 0;
     while pass < l.step {
-        at = move_pass(l, pass, at, back, from, to);
+        at = move_pass::<BACK>(l, pass, at, from, to);
         pass += 1;
     }
     if at.nibble < l.rows + l.parity {
-        move_parity(l, at, back, from, to);
+        move_parity::<BACK>(l, at, from, to);
     }
 }
 
 // Pairs of a pass, as long as the row is below `end`. Both nibbles of a pair are rotated alike, and its parity row stands `apart` after its
 // data row.
-fn move_run(
+fn move_run<const BACK: bool>(
     l: Shape,
     start: Run,
     end: usize,
     apart: usize,
-    back: bool,
     from: &[u8],
     to: &mut [u8],
 ) -> Run
     requires { Moving l from.now to.old × PairRun l start end apart }
     ensures stands { (start.nibble ≤ result.nibble) × (Runs l result) × (result.pass ≡ start.pass) × (end ≤ result.row) }
-    ensures moved { to.new ≡ carried l back from.now start.nibble result.nibble to.old }
+    ensures moved { to.new ≡ carried l BACK from.now start.nibble result.nibble to.old }
 {
     let pass = start.pass;
     let mut nibble = start.nibble;
     let mut row = start.row;
     while row < end {
         let rotation = (nibble / 2 % 4) as u32;
-        move_word(nibble, rotation, row * 4, back, from, to);
-        move_word(nibble + 1, rotation, (apart + row) * 4, back, from, to);
+        move_word::<BACK>(nibble, rotation, row * 4, from, to);
+        move_word::<BACK>(nibble + 1, rotation, (apart + row) * 4, from, to);
         nibble += 2;
         row += l.step;
     }
@@ -189,9 +187,9 @@ fn move_run(
 }
 
 // All nibbles of a shape of pairs. The parity rows of a pass go past the end once, and then on from the first row.
-fn move_pairs(l: Shape, back: bool, from: &[u8], to: &mut [u8])
+fn move_pairs<const BACK: bool>(l: Shape, from: &[u8], to: &mut [u8])
     requires { Moving l from.now to.old × Near l × Paired l }
-    ensures { to.new ≡ carried l back from.now 0 (l.rows + l.parity) to.old }
+    ensures { to.new ≡ carried l BACK from.now 0 (l.rows + l.parity) to.old }
 {
     let bend = l.rows - l.offset;
     let before = l.rows + l.offset;
@@ -203,26 +201,24 @@ fn move_pairs(l: Shape, back: bool, from: &[u8], to: &mut [u8])
             row: pass,
             pass,
         };
-        let past = move_run(l, start, bend, before, back, from, to);
-        let last = move_run(l, past, l.rows, l.offset, back, from, to);
+        let past = move_run::<BACK>(l, start, bend, before, from, to);
+        let last = move_run::<BACK>(l, past, l.rows, l.offset, from, to);
         nibble = last.nibble;
         pass += 1;
     }
 }
 
-// All bits of a block, from rows to coded bits or back. Of pairs each direction is a call of its own, so that no nibble tests it.
-fn move_bits(kind: usize, rate: usize, back: bool, from: &[u8], to: &mut [u8])
+// All bits of a block, from rows to coded bits or back.
+fn move_bits<const BACK: bool>(kind: usize, rate: usize, from: &[u8], to: &mut [u8])
     requires { (Defined kind rate) × (length from.now ≡ coded_bits kind rate) × (coded_bits kind rate ≤ length to.old) }
-    ensures { to.new ≡ stored (coded_bits kind rate) (target back (row_place kind rate))
-        (λ i. get_or from.now (origin back (row_place kind rate) i) 0) to.old }
+    ensures { to.new ≡ stored (coded_bits kind rate) (target BACK (row_place kind rate))
+        (λ i. get_or from.now (origin BACK (row_place kind rate) i) 0) to.old }
 {
     let l = interleaver_shape::shape_of(kind, rate);
     if l.continuous {
-        move_groups(l, back, from, to);
-    } else if back {
-        move_pairs(l, true, from, to);
+        move_groups::<BACK>(l, from, to);
     } else {
-        move_pairs(l, false, from, to);
+        move_pairs::<BACK>(l, from, to);
     }
 }
 
@@ -231,7 +227,7 @@ pub fn interleave(kind: usize, rate: usize, rows: &[u8], out: &mut [u8])
     requires { (Defined kind rate) × (length rows.now ≡ coded_bits kind rate) × (coded_bits kind rate ≤ length out.old) }
     ensures { out.new ≡ written (coded_bits kind rate) (λ i. get_or rows.now (row_place kind rate i) 0) out.old }
 {
-    move_bits(kind, rate, false, rows, out);
+    move_bits::<false>(kind, rate, rows, out);
 }
 
 // The rows of a block's coded bits, at the start of `rows`.
@@ -239,5 +235,5 @@ pub fn deinterleave(kind: usize, rate: usize, coded: &[u8], rows: &mut [u8])
     requires { (Defined kind rate) × (length coded.now ≡ coded_bits kind rate) × (coded_bits kind rate ≤ length rows.old) }
     ensures { rows.new ≡ written (coded_bits kind rate) (λ j. get_or coded.now (coded_at kind rate (row_source kind rate j)) 0) rows.old }
 {
-    move_bits(kind, rate, true, coded, rows);
+    move_bits::<true>(kind, rate, coded, rows);
 }

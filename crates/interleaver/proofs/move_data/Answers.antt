@@ -16,15 +16,16 @@ use Rattle.interleaver.proofs.RowLaws.{row-data}
 use Rattle.interleaver.proofs.WalkLaws.{pass_on, row-at}
 use Rattle.interleaver.proofs.StreamLaws.{data-step, data-due, stream-on}
 use Rattle.interleaver.proofs.NibbleLaws.{carried_none, carried-join, carried-one}
+use Rattle.interleaver.proofs.move_data.Given.{Over}
 use Rattle.interleaver.proofs.move_data.Goals as goal
 use Rattle.interleaver.proofs.move_data.Goals.{In-loop-row}
 
 -- a data nibble comes next, in this row
-next : (c : In-loop-row)
+next : (g : Over) (c : In-loop-row g)
     → (0 < until_parity c.args.l c.loop-row.nibble) × (is_parity c.args.l c.loop-row.nibble ≡ false)
     × (pass_row c.args.l.rows c.args.l.step (data_place c.args.l c.loop-row.nibble) ≡ c.loop-row.row)
     × (c.loop-row.nibble < c.args.l.rows + c.args.l.parity) × (c.loop-row.row < c.args.l.rows)
-next c =
+next g c =
     let l = c.args.l in
     let u = until_parity l c.loop-row.nibble in
     let below : c.loop-row.row < l.rows = omega (arith, c.loop-row-test.true, c.requires.1.end-le) in
@@ -36,7 +37,7 @@ next c =
     (some, data-due l c.requires.0.sound c.loop-row.nibble some, row, stream-on l c.requires.0.sound c.loop-row.nibble place, below)
 
 pub loop-row-init : goal.loop-row-init
-loop-row-init c = (
+loop-row-init g c = (
   omega arith,
   c.requires.1.within,
   c.requires.1.on-pass,
@@ -44,37 +45,37 @@ loop-row-init c = (
   refl,
   refl,
   refl,
-  carried_none c.args.l c.args.back c.args.from.now c.args.start.nibble c.args.to.now,
+  carried_none c.args.l _ c.args.from.now c.args.start.nibble c.args.to.now,
 )
 
 pub overflow_mul-row : goal.overflow_mul-row
-overflow_mul-row c = omega (arith, (next c).4, c.requires.0.small)
+overflow_mul-row g c = omega (arith, (next g c).4, c.requires.0.small)
 
 pub move_nibble-requires : goal.move_nibble-requires
-move_nibble-requires c =
-    let (some, is, at, n, row) = next (goal.at.move_nibble-requires c).In-loop-row in
+move_nibble-requires g c =
+    let (some, is, at, n, row) = next g (goal.at.move_nibble-requires g c).In-loop-row in
     let room : coded_of c.args.l ≤ length c.loop-row.to = omega (arith, c.requires.0.room, c.loop-row.invariant.6) in
     record { coded-from = omega (arith, c.requires.0.whole); coded-to = omega arith; row_from = omega (arith, c.requires.0.whole); row-to = omega arith }
 
 pub overflow_add-nibble : goal.overflow_add-nibble
-overflow_add-nibble c =
-    omega (arith, (next (goal.at.overflow_add-nibble c).In-loop-row).3, c.requires.0.small)
+overflow_add-nibble g c =
+    omega (arith, (next g (goal.at.overflow_add-nibble g c).In-loop-row).3, c.requires.0.small)
 
 pub overflow_add-row : goal.overflow_add-row
-overflow_add-row c =
-    omega (arith, (next (goal.at.overflow_add-row c).In-loop-row).4, c.requires.0.small)
+overflow_add-row g c =
+    omega (arith, (next g (goal.at.overflow_add-row g c).In-loop-row).4, c.requires.0.small)
 
 pub loop-row-smaller : goal.loop-row-smaller
-loop-row-smaller c =
+loop-row-smaller g c =
     omega (arith, c.loop-row-test.true, c.requires.0.sound.step-pos)
 
 pub loop-row-preserved : goal.loop-row-preserved
-loop-row-preserved c =
+loop-row-preserved g c =
     let l = c.args.l in
     let n = c.loop-row.nibble in
     let u = until_parity l n in
     let from = c.args.from.now in
-    let (some, is, at, within, below) = next (goal.at.loop-row-preserved c).In-loop-row in
+    let (some, is, at, within, below) = next g (goal.at.loop-row-preserved g c).In-loop-row in
     let (place, parity, left) = data-step l c.requires.0.sound n is in
     let row : c.loop-row.row ≡ row_of l n = omega (arith, at, row-data l n is) in
     let on : data_place l n + 1 ≡ data_place l (n + 1) = omega arith in
@@ -86,15 +87,15 @@ loop-row-preserved c =
       parity ∙ c.loop-row.invariant.4,
       omega (arith, c.loop-row.invariant.5, down),
       c.move_nibble.auto.to ∙ c.loop-row.invariant.6,
-      carried-join l c.args.back from c.args.start.nibble n (n + 1) c.args.to.now _ _ c.loop-row.invariant.0 (omega arith) c.loop-row.invariant.7
-          (carried-one l c.args.back from n c.loop-row.row _ _ row c.move_nibble.ensures),
+      carried-join l _ from c.args.start.nibble n (n + 1) c.args.to.now _ _ c.loop-row.invariant.0 (omega arith) c.loop-row.invariant.7
+          (carried-one l _ from n c.loop-row.row _ _ row c.move_nibble.ensures),
     )
 
 pub shape_of-to : goal.shape_of-to
-shape_of-to c = c.loop-row.invariant.6
+shape_of-to g c = c.loop-row.invariant.6
 
 pub returns : goal.returns
-returns c =
+returns g c =
     let i = c.loop-row.invariant in
     record {
       stands = (i.0, i.1, i.2, c.loop-row-test.false, i.4, i.5);

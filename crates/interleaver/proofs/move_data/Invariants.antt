@@ -4,15 +4,15 @@ use mathlib.Core.Path.{◌≡◌}
 use Prim.Native.Nat.{◌+◌, ◌-◌, ◌*◌, ◌≤◌}
 use lib.ListN.{length}
 use Rattle.interleaver.specs.Source.{data_place}
-use Rattle.interleaver.specs.Loops.Stores.{carried}
+use Rattle.interleaver.specs.Loops.Stores.{flag, carried}
 use Rattle.interleaver.specs.Loops.Walks.{OnPass, parity_place, until_parity}
 use Rattle.interleaver.proofs.move_data.Given as goal
 
 abbrev pub invariant-loop-row : goal.invariant-loop-row
-invariant-loop-row l =
+invariant-loop-row g l =
     (l.initial.nibble ≤ l.nibble) × (l.nibble ≤ l.l.rows + l.l.parity) × (OnPass l.l.rows l.l.step (data_place l.l l.nibble) l.pass l.row)
     × (l.end ≤ l.row + until_parity l.l l.nibble * l.l.step) × (parity_place l.l l.nibble ≡ parity_place l.l l.initial.nibble)
-    × (until_parity l.l l.nibble + l.nibble ≡ until_parity l.l l.initial.nibble + l.initial.nibble) × (length l.to ≡ length l.initial.to) × (l.to ≡ carried l.l l.back l.from l.initial.nibble l.nibble l.initial.to)
+    × (until_parity l.l l.nibble + l.nibble ≡ until_parity l.l l.initial.nibble + l.initial.nibble) × (length l.to ≡ length l.initial.to) × (l.to ≡ carried l.l (flag g.row.BACK) l.from l.initial.nibble l.nibble l.initial.to)
 
 abbrev pub decreases-loop-row : goal.decreases-loop-row
-decreases-loop-row l = l.end - l.row
+decreases-loop-row g l = l.end - l.row

@@ -5,14 +5,14 @@ use Prim.Native.Nat.{◌-◌, ◌≤◌}
 use lib.ListN.{length}
 use Rattle.interleaver.specs.Rows.{passes}
 use Rattle.interleaver.specs.Source.{data_place}
-use Rattle.interleaver.specs.Loops.Stores.{carried}
+use Rattle.interleaver.specs.Loops.Stores.{flag, carried}
 use Rattle.interleaver.specs.Loops.Walks.{Stands}
 use Rattle.interleaver.proofs.move_groups.Given as goal
 
 abbrev pub invariant-loop-pass : goal.invariant-loop-pass
-invariant-loop-pass l =
+invariant-loop-pass g l =
     (l.pass ≤ l.l.step) × (Stands l.l l.at) × (data_place l.l l.at.nibble ≡ length (passes l.l.rows l.l.step l.pass)) × (length l.to ≡ length l.initial.to)
-    × (l.to ≡ carried l.l l.back l.from 0 l.at.nibble l.initial.to)
+    × (l.to ≡ carried l.l (flag g.row.BACK) l.from 0 l.at.nibble l.initial.to)
 
 abbrev pub decreases-loop-pass : goal.decreases-loop-pass
-decreases-loop-pass l = l.l.step - l.pass
+decreases-loop-pass g l = l.l.step - l.pass

@@ -4,30 +4,30 @@ use Prim.Native.Nat.{ℕ, ◌+◌, ◌*◌}
 use native.Mathlib.Omega.{arith}
 use lib.ListN.{length}
 use Rattle.interleaver.specs.Rows.{passes}
-use Rattle.interleaver.specs.Loops.Stores.{carried}
+use Rattle.interleaver.specs.Loops.Stores.{flag, carried}
 use Rattle.interleaver.proofs.WalkLaws.{moved-within, moved-past, passes-all, passes_none, on-start, pass-end}
 use Rattle.interleaver.proofs.PairLaws.{parity-is}
 use Rattle.interleaver.proofs.NibbleLaws.{moving-on, carried_none, carried-join}
 use Rattle.interleaver.proofs.move_pairs.Goals as goal
 
 pub overflow_sub-bend : goal.overflow_sub-bend
-overflow_sub-bend c =
+overflow_sub-bend g c =
     omega (arith, c.requires.1.offset-lt, parity-is c.args.l c.requires.0.sound c.requires.2)
 
 pub overflow_add-before : goal.overflow_add-before
-overflow_add-before c = omega (arith, c.requires.0.small)
+overflow_add-before g c = omega (arith, c.requires.0.small)
 
 pub loop-pass-init : goal.loop-pass-init
-loop-pass-init c =
+loop-pass-init g c =
     let l = c.args.l in (
       omega arith,
       ap (λ (k : ℕ). k * 2) (passes_none l.rows l.step c.requires.0.sound.step-pos),
       refl,
-      carried_none l c.args.back c.args.from.now 0 c.args.to.now,
+      carried_none l _ c.args.from.now 0 c.args.to.now,
     )
 
 pub move_run-past-requires : goal.move_run-past-requires
-move_run-past-requires c =
+move_run-past-requires g c =
     let l = c.args.l in (
       moving-on c.requires.0 c.loop-pass.invariant.2,
       record {
@@ -44,7 +44,7 @@ move_run-past-requires c =
     )
 
 pub move_run-last-requires : goal.move_run-last-requires
-move_run-last-requires c =
+move_run-last-requires g c =
     let l = c.args.l in
     let past = c.move_run-past.ensures.stands.3 in
     let near = c.requires.1.offset-lt in
@@ -59,14 +59,14 @@ move_run-last-requires c =
     )
 
 pub overflow_add-pass : goal.overflow_add-pass
-overflow_add-pass c =
+overflow_add-pass g c =
     omega (arith, c.loop-pass-test.true, c.requires.0.small)
 
 pub loop-pass-smaller : goal.loop-pass-smaller
-loop-pass-smaller c = omega (arith, c.loop-pass-test.true)
+loop-pass-smaller g c = omega (arith, c.loop-pass-test.true)
 
 pub loop-pass-preserved : goal.loop-pass-preserved
-loop-pass-preserved c =
+loop-pass-preserved g c =
     let l = c.args.l in
     let from = c.args.from.now in
     let (up, runs, same, end) = c.move_run-last.ensures.stands in
@@ -77,20 +77,20 @@ loop-pass-preserved c =
       omega (arith, c.loop-pass-test.true),
       runs.nibble-is ∙ ap (λ (k : ℕ). k * 2) place,
       c.move_run-last.auto.to ∙ c.move_run-past.auto.to ∙ c.loop-pass.invariant.2,
-      carried-join l c.args.back from 0 c.move_run-past.result.nibble c.move_run-last.result.nibble c.args.to.now _ _ (omega arith) up
-          (carried-join l c.args.back from 0 c.loop-pass.nibble c.move_run-past.result.nibble c.args.to.now _ _ (omega arith) c.move_run-past.ensures.stands.0 c.loop-pass.invariant.3
+      carried-join l _ from 0 c.move_run-past.result.nibble c.move_run-last.result.nibble c.args.to.now _ _ (omega arith) up
+          (carried-join l _ from 0 c.loop-pass.nibble c.move_run-past.result.nibble c.args.to.now _ _ (omega arith) c.move_run-past.ensures.stands.0 c.loop-pass.invariant.3
           c.move_run-past.ensures.moved)
           c.move_run-last.ensures.moved,
     )
 
 pub shape_of-to : goal.shape_of-to
-shape_of-to c = c.loop-pass.invariant.2
+shape_of-to g c = c.loop-pass.invariant.2
 
 pub returns : goal.returns
-returns c =
+returns g c =
     let l = c.args.l in
     let e : c.loop-pass.pass ≡ l.step = omega (arith, c.loop-pass.invariant.0, c.loop-pass-test.false) in
     let all = ap (λ (j : ℕ). length (passes l.rows l.step j)) e ∙ passes-all l.rows l.step c.requires.0.sound.step-pos in
     c.loop-pass.invariant.3
-    ∙ ap (λ (k : ℕ). carried l c.args.back c.args.from.now 0 k c.args.to.now)
+    ∙ ap (λ (k : ℕ). carried l (flag g.row.BACK) c.args.from.now 0 k c.args.to.now)
     (c.loop-pass.invariant.1 ∙ ap (λ (k : ℕ). k * 2) all ∙ omega (arith, parity-is l c.requires.0.sound c.requires.2))

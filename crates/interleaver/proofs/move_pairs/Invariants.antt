@@ -3,12 +3,12 @@ use mathlib.Core.Path.{◌≡◌}
 use Prim.Native.Nat.{◌-◌, ◌*◌, ◌≤◌}
 use lib.ListN.{length}
 use Rattle.interleaver.specs.Rows.{passes}
-use Rattle.interleaver.specs.Loops.Stores.{carried}
+use Rattle.interleaver.specs.Loops.Stores.{flag, carried}
 use Rattle.interleaver.proofs.move_pairs.Given as goal
 
 abbrev pub invariant-loop-pass : goal.invariant-loop-pass
-invariant-loop-pass l =
-    (l.pass ≤ l.l.step) × (l.nibble ≡ length (passes l.l.rows l.l.step l.pass) * 2) × (length l.to ≡ length l.initial.to) × (l.to ≡ carried l.l l.back l.from 0 l.nibble l.initial.to)
+invariant-loop-pass g l =
+    (l.pass ≤ l.l.step) × (l.nibble ≡ length (passes l.l.rows l.l.step l.pass) * 2) × (length l.to ≡ length l.initial.to) × (l.to ≡ carried l.l (flag g.row.BACK) l.from 0 l.nibble l.initial.to)
 
 abbrev pub decreases-loop-pass : goal.decreases-loop-pass
-decreases-loop-pass l = l.l.step - l.pass
+decreases-loop-pass g l = l.l.step - l.pass

@@ -12,15 +12,16 @@ use Rattle.interleaver.proofs.RowLaws.{row-parity}
 use Rattle.interleaver.proofs.WalkLaws.{continuous-next}
 use Rattle.interleaver.proofs.StreamLaws.{parity-step, parity-due, data-due, parity-group}
 use Rattle.interleaver.proofs.NibbleLaws.{carried_none, carried-one}
+use Rattle.interleaver.proofs.move_parity.Given.{Over}
 use Rattle.interleaver.proofs.move_parity.Goals as goal
 use Rattle.interleaver.proofs.move_parity.Goals.{Else-at-gt0}
 
 -- a parity nibble is due: its place among the parity nibbles, and its row
-due : (c : Else-at-gt0)
+due : (g : Over) (c : Else-at-gt0 g)
     → (is_parity c.args.l c.args.at.nibble ≡ true)
     × (c.args.at.row ≡ parity_row c.args.l (group_of c.args.l c.args.at.nibble))
     × (c.args.at.row < c.args.l.parity)
-due c =
+due g c =
     let l = c.args.l in
     let n = c.args.at.nibble in
     let t : is_parity l n ≡ true = parity-due l c.requires.0.sound n (omega (arith, c.requires.2.left_is)) in
@@ -29,24 +30,24 @@ due c =
     (t, e, omega (arith, e, parity-row-lt l c.requires.0.sound n c.requires.3))
 
 pub returns-then-at-gt0 : goal.returns-then-at-gt0
-returns-then-at-gt0 c =
+returns-then-at-gt0 g c =
     let at = c.args.at in
     let t : is_parity c.args.l at.nibble ≡ false =
     data-due c.args.l c.requires.0.sound at.nibble (omega (arith, c.requires.2.left_is)) in
     record {
       stands = (rw t (omega arith), c.requires.2, c.if-at-gt0.true);
-      moved = carried_none c.args.l c.args.back c.args.from.now at.nibble c.args.to.now;
+      moved = carried_none c.args.l _ c.args.from.now at.nibble c.args.to.now;
     }
 
 pub overflow_add-l : goal.overflow_add-l
-overflow_add-l c = omega (arith, due (goal.at.overflow_add-l c).Else-at-gt0, c.requires.0.small)
+overflow_add-l g c = omega (arith, due g (goal.at.overflow_add-l g c).Else-at-gt0, c.requires.0.small)
 
 pub overflow_mul-l : goal.overflow_mul-l
-overflow_mul-l c = omega (arith, due (goal.at.overflow_mul-l c).Else-at-gt0, c.requires.0.small)
+overflow_mul-l g c = omega (arith, due g (goal.at.overflow_mul-l g c).Else-at-gt0, c.requires.0.small)
 
 pub move_nibble-requires : goal.move_nibble-requires
-move_nibble-requires c =
-    let row = (due (goal.at.move_nibble-requires c).Else-at-gt0).2 in
+move_nibble-requires g c =
+    let row = (due g (goal.at.move_nibble-requires g c).Else-at-gt0).2 in
     record {
       coded-from = omega (arith, c.requires.3, c.requires.0.whole);
       coded-to = omega (arith, c.requires.3, c.requires.0.room);
@@ -55,15 +56,15 @@ move_nibble-requires c =
     }
 
 pub moved_row-requires : goal.moved_row-requires
-moved_row-requires c =
-    ((due (goal.at.moved_row-requires c).Else-at-gt0).2, c.requires.1.near.step-le, c.requires.0.small.parity-lt)
+moved_row-requires g c =
+    ((due g (goal.at.moved_row-requires g c).Else-at-gt0).2, c.requires.1.near.step-le, c.requires.0.small.parity-lt)
 
 pub returns : goal.returns
-returns c =
+returns g c =
     let l = c.args.l in
     let at = c.args.at in
     let n = at.nibble in
-    let (t, row, below) = due (goal.at.returns c).Else-at-gt0 in
+    let (t, row, below) = due g (goal.at.returns g c).Else-at-gt0 in
     let (places, rows, left) = parity-step l c.requires.0.sound n t in
     let e : l.rows + at.row ≡ row_of l n = omega (arith, row, row-parity l n t) in
     record {
@@ -78,6 +79,6 @@ returns c =
         },
         c.requires.0.sound.group-pos,
       );
-      moved = carried-one l c.args.back c.args.from.now n (l.rows + at.row) c.args.to.now _ e
+      moved = carried-one l _ c.args.from.now n (l.rows + at.row) c.args.to.now _ e
           c.move_nibble.ensures;
     }

@@ -9,92 +9,93 @@ use Rattle.interleaver.specs.Source.{data_place}
 use Rattle.interleaver.proofs.WalkLaws.{on-start, pass-end, row-at}
 use Rattle.interleaver.proofs.StreamLaws.{until-le, parity-passed, stream-on}
 use Rattle.interleaver.proofs.NibbleLaws.{moving-on, carried_none, carried-join}
+use Rattle.interleaver.proofs.move_pass.Given.{Over}
 use Rattle.interleaver.proofs.move_pass.Goals as goal
 use Rattle.interleaver.proofs.move_pass.Goals.{After-move_parity-data, In-loop-row}
 
 -- the row of the data nibble that comes next
-row_of : (c : In-loop-row)
+row_of : (g : Over) (c : In-loop-row g)
     → (pass_row c.args.l.rows c.args.l.step (data_place c.args.l c.loop-row.at.nibble) ≡ c.loop-row.row)
     × (data_place c.args.l c.loop-row.at.nibble < c.args.l.rows)
-row_of c =
+row_of g c =
     let l = c.args.l in
     row-at l.rows l.step c.requires.0.sound.step-pos (data_place l c.loop-row.at.nibble) c.args.pass c.loop-row.row c.loop-row.invariant.0 c.requires.2.pass-lt c.loop-row-test.true
 
 -- past the parity nibble stands that data nibble
-data_of : (c : After-move_parity-data) → data_place c.args.l c.loop-row.at.nibble < c.args.l.rows
+data_of : (g : Over) (c : After-move_parity-data g) → data_place c.args.l c.loop-row.at.nibble < c.args.l.rows
     → (data_place c.args.l c.move_parity-data.result.nibble ≡ data_place c.args.l c.loop-row.at.nibble)
     × (c.move_parity-data.result.nibble < c.args.l.rows + c.args.l.parity)
-data_of c row =
+data_of g c row =
     let l = c.args.l in
     let e = parity-passed l c.requires.0.sound c.loop-row.at.nibble c.move_parity-data.result.nibble c.move_parity-data.ensures.stands.0 in
     (e, stream-on l c.requires.0.sound c.move_parity-data.result.nibble (omega (arith, e, row)))
 
 -- how far the data nibbles reach before the next parity nibble
-reach-le : (c : After-move_parity-data)
+reach-le : (g : Over) (c : After-move_parity-data g)
     → (c.move_parity-data.result.left * c.args.l.step ≤ 65535 * 65535) × (c.move_parity-data.result.left ≤ 65535)
-reach-le c =
+reach-le g c =
     let l = c.args.l in
     let h : c.move_parity-data.result.left ≤ 65535 =
     omega (arith, c.move_parity-data.ensures.stands.1.left_is, until-le l c.requires.0.sound c.move_parity-data.result.nibble, c.requires.0.small.group-lt) in
     (mul-le-mul {n₁ = c.move_parity-data.result.left} {m₁ = l.step} {n₂ = 65535} {m₂ = 65535} h (omega (arith, c.requires.0.small.step-lt)), h)
 
 pub loop-row-init : goal.loop-row-init
-loop-row-init c =
+loop-row-init g c =
     let l = c.args.l in (
       rw c.requires.2.place_is (on-start l.rows l.step c.requires.0.sound.step-pos c.args.pass (omega arith) (omega arith)),
       c.requires.2.stands,
       omega arith,
       refl,
-      carried_none l c.args.back c.args.from.now c.args.start.nibble c.args.to.now,
+      carried_none l _ c.args.from.now c.args.start.nibble c.args.to.now,
     )
 
 pub move_parity-data-requires : goal.move_parity-data-requires
-move_parity-data-requires c =
+move_parity-data-requires g c =
     let l = c.args.l in
-    let h = stream-on l c.requires.0.sound c.loop-row.at.nibble (row_of (goal.at.move_parity-data-requires c).In-loop-row).1 in
+    let h = stream-on l c.requires.0.sound c.loop-row.at.nibble (row_of g (goal.at.move_parity-data-requires g c).In-loop-row).1 in
     (moving-on c.requires.0 c.loop-row.invariant.3, c.requires.1, c.loop-row.invariant.1, h)
 
 pub overflow_mul-data : goal.overflow_mul-data
-overflow_mul-data c = omega (arith, reach-le (goal.at.overflow_mul-data c).After-move_parity-data)
+overflow_mul-data g c = omega (arith, reach-le g (goal.at.overflow_mul-data g c).After-move_parity-data)
 
 pub overflow_add-row : goal.overflow_add-row
-overflow_add-row c =
-    omega (arith, reach-le (goal.at.overflow_add-row c).After-move_parity-data, c.loop-row-test.true, c.requires.0.small)
+overflow_add-row g c =
+    omega (arith, reach-le g (goal.at.overflow_add-row g c).After-move_parity-data, c.loop-row-test.true, c.requires.0.small)
 
 pub move_data-last-requires : goal.move_data-last-requires
-move_data-last-requires c =
+move_data-last-requires g c =
     let l = c.args.l in
-    let (place, n) = data_of (goal.at.move_data-last-requires c).After-move_parity-data (row_of (goal.at.move_data-last-requires c).In-loop-row).1 in (
+    let (place, n) = data_of g (goal.at.move_data-last-requires g c).After-move_parity-data (row_of g (goal.at.move_data-last-requires g c).In-loop-row).1 in (
       moving-on c.requires.0 (c.move_parity-data.auto.to ∙ c.loop-row.invariant.3),
       record {
         pass-lt = c.requires.2.pass-lt;
-        end-le = omega (arith, c.least-end.ensures);
+        end-le = omega (arith, c.min-end.ensures);
         within = omega arith;
         on-pass = rw place c.loop-row.invariant.0;
-        no-parity = omega (arith, c.least-end.ensures, ap (λ (x : ℕ). x * l.step) c.move_parity-data.ensures.stands.1.left_is);
+        no-parity = omega (arith, c.min-end.ensures, ap (λ (x : ℕ). x * l.step) c.move_parity-data.ensures.stands.1.left_is);
       },
     )
 
 pub overflow_add-at : goal.overflow_add-at
-overflow_add-at c =
-    omega (arith, (reach-le (goal.at.overflow_add-at c).After-move_parity-data).1, (data_of (goal.at.overflow_add-at c).After-move_parity-data (row_of (goal.at.overflow_add-at c).In-loop-row).1).1, c.requires.0.small)
+overflow_add-at g c =
+    omega (arith, (reach-le g (goal.at.overflow_add-at g c).After-move_parity-data).1, (data_of g (goal.at.overflow_add-at g c).After-move_parity-data (row_of g (goal.at.overflow_add-at g c).In-loop-row).1).1, c.requires.0.small)
 
 pub overflow_sub-at : goal.overflow_sub-at
-overflow_sub-at c =
+overflow_sub-at g c =
     omega (arith, c.move_data-last.ensures.stands.5, c.move_parity-data.ensures.stands.1.left_is)
 
 pub loop-row-smaller : goal.loop-row-smaller
-loop-row-smaller c =
+loop-row-smaller g c =
     let some : c.args.l.step ≤ c.move_parity-data.result.left * c.args.l.step =
     omega (
       arith,
       one-mul c.args.l.step,
       mul-le-mul_right {m = 1} {n = c.move_parity-data.result.left} c.args.l.step c.move_parity-data.ensures.stands.2,
     ) in
-    omega (arith, c.move_data-last.ensures.stands.3, c.least-end.ensures, c.loop-row-test.true, c.requires.0.sound.step-pos)
+    omega (arith, c.move_data-last.ensures.stands.3, c.min-end.ensures, c.loop-row-test.true, c.requires.0.sound.step-pos)
 
 pub loop-row-preserved : goal.loop-row-preserved
-loop-row-preserved c =
+loop-row-preserved g c =
     let l = c.args.l in
     let n = c.move_parity-data.result.nibble in
     let from = c.args.from.now in
@@ -108,16 +109,16 @@ loop-row-preserved c =
       },
       omega (arith, c.loop-row.invariant.2, c.move_data-last.ensures.stands.0),
       c.move_data-last.auto.to ∙ c.move_parity-data.auto.to ∙ c.loop-row.invariant.3,
-      carried-join l c.args.back from c.args.start.nibble n c.move_data-last.result.nibble c.args.to.now _ _ (omega (arith, c.loop-row.invariant.2)) c.move_data-last.ensures.stands.0
-          (carried-join l c.args.back from c.args.start.nibble c.loop-row.at.nibble n c.args.to.now _ _ c.loop-row.invariant.2 up c.loop-row.invariant.4 c.move_parity-data.ensures.moved)
+      carried-join l _ from c.args.start.nibble n c.move_data-last.result.nibble c.args.to.now _ _ (omega (arith, c.loop-row.invariant.2)) c.move_data-last.ensures.stands.0
+          (carried-join l _ from c.args.start.nibble c.loop-row.at.nibble n c.args.to.now _ _ c.loop-row.invariant.2 up c.loop-row.invariant.4 c.move_parity-data.ensures.moved)
           c.move_data-last.ensures.moved,
     )
 
 pub shape_of-to : goal.shape_of-to
-shape_of-to c = c.loop-row.invariant.3
+shape_of-to g c = c.loop-row.invariant.3
 
 pub returns : goal.returns
-returns c =
+returns g c =
     let l = c.args.l in
     record {
       stands = (

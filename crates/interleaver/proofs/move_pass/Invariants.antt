@@ -4,14 +4,14 @@ use mathlib.Core.Path.{◌≡◌}
 use Prim.Native.Nat.{◌-◌, ◌≤◌}
 use lib.ListN.{length}
 use Rattle.interleaver.specs.Source.{data_place}
-use Rattle.interleaver.specs.Loops.Stores.{carried}
+use Rattle.interleaver.specs.Loops.Stores.{flag, carried}
 use Rattle.interleaver.specs.Loops.Walks.{OnPass, Stands}
 use Rattle.interleaver.proofs.move_pass.Given as goal
 
 abbrev pub invariant-loop-row : goal.invariant-loop-row
-invariant-loop-row l =
+invariant-loop-row g l =
     (OnPass l.l.rows l.l.step (data_place l.l l.at.nibble) l.pass l.row) × (Stands l.l l.at) × (l.initial.at.nibble ≤ l.at.nibble) × (length l.to ≡ length l.initial.to)
-    × (l.to ≡ carried l.l l.back l.from l.initial.at.nibble l.at.nibble l.initial.to)
+    × (l.to ≡ carried l.l (flag g.row.BACK) l.from l.initial.at.nibble l.at.nibble l.initial.to)
 
 abbrev pub decreases-loop-row : goal.decreases-loop-row
-decreases-loop-row l = l.l.rows - l.row
+decreases-loop-row g l = l.l.rows - l.row

@@ -3,14 +3,14 @@
 use mathlib.Core.Path.{◌≡◌}
 use Prim.Native.Nat.{◌-◌, ◌≤◌}
 use lib.ListN.{length}
-use Rattle.interleaver.specs.Loops.Stores.{carried}
+use Rattle.interleaver.specs.Loops.Stores.{flag, carried}
 use Rattle.interleaver.specs.Loops.Walks.{Runs}
 use Rattle.interleaver.proofs.move_run.Given as goal
 
 abbrev pub invariant-loop-row : goal.invariant-loop-row
-invariant-loop-row l =
+invariant-loop-row g l =
     (Runs l.l (record { nibble = l.nibble; row = l.row; pass = l.pass })) × (l.initial.nibble ≤ l.nibble) × (l.initial.row ≤ l.row) × (length l.to ≡ length l.initial.to)
-    × (l.to ≡ carried l.l l.back l.from l.initial.nibble l.nibble l.initial.to)
+    × (l.to ≡ carried l.l (flag g.row.BACK) l.from l.initial.nibble l.nibble l.initial.to)
 
 abbrev pub decreases-loop-row : goal.decreases-loop-row
-decreases-loop-row l = l.end - l.row
+decreases-loop-row g l = l.end - l.row
