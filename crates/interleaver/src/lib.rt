@@ -149,10 +149,8 @@ fn move_groups<const BACK: bool>(l: Shape, from: &[u8], to: &mut [u8])
         left: l.lead,
         row: l.offset,
     };
-    let mut pass: usize = 0;
-    while pass < l.step {
+    for pass in 0..l.step {
         at = move_pass::<BACK>(l, pass, at, from, to);
-        pass += 1;
     }
     if at.nibble < l.rows + l.parity {
         move_parity::<BACK>(l, at, from, to);
@@ -194,8 +192,7 @@ fn move_pairs<const BACK: bool>(l: Shape, from: &[u8], to: &mut [u8])
     let bend = l.rows - l.offset;
     let before = l.rows + l.offset;
     let mut nibble: usize = 0;
-    let mut pass: usize = 0;
-    while pass < l.step {
+    for pass in 0..l.step {
         let start = Run {
             nibble,
             row: pass,
@@ -204,7 +201,6 @@ fn move_pairs<const BACK: bool>(l: Shape, from: &[u8], to: &mut [u8])
         let past = move_run::<BACK>(l, start, bend, before, from, to);
         let last = move_run::<BACK>(l, past, l.rows, l.offset, from, to);
         nibble = last.nibble;
-        pass += 1;
     }
 }
 

@@ -1,6 +1,6 @@
 -- `interleaver::move_groups` meets its contract. The invariant: the data nibbles of the passes before this one, and the parity nibbles among
 -- them, are carried. Assumes nothing.
-use mathlib.Core.Path.{◌≡◌, refl, sym, ap, ◌∙◌}
+use mathlib.Core.Path.{◌≡◌, sym, ap, ◌∙◌}
 use Prim.Native.Nat.{ℕ, ◌+◌}
 use native.Mathlib.Omega.{arith}
 use lib.ListN.{length}
@@ -19,14 +19,13 @@ done : (g : Over) (c : After-loop-pass g)
     → data_place c.args.l c.loop-pass.at.nibble ≡ c.args.l.rows
 done g c =
     let l = c.args.l in
-    let e : c.loop-pass.pass ≡ l.step = omega (arith, c.loop-pass.invariant.0, c.loop-pass-test.false) in
-    c.loop-pass.invariant.2 ∙ ap (λ (j : ℕ). length (passes l.rows l.step j)) e ∙ passes-all l.rows l.step c.requires.0.sound.step-pos
+    let e : c.loop-pass.pass ≡ l.step = omega (arith, c.loop-pass.auto.pass-end, c.loop-pass-test.false) in
+    c.loop-pass.invariant.1 ∙ ap (λ (j : ℕ). length (passes l.rows l.step j)) e ∙ passes-all l.rows l.step c.requires.0.sound.step-pos
 
 pub loop-pass-init : goal.loop-pass-init
 loop-pass-init g c =
     let l = c.args.l in
     let (places, rows, left) = counts_start l c.requires.0.sound in (
-      omega arith,
       record {
         within = omega arith;
         left_is = sym left;
@@ -34,30 +33,20 @@ loop-pass-init g c =
             ∙ ap (continuous_row l.parity l.step l.offset) (sym rows);
       },
       places ∙ passes_none l.rows l.step c.requires.0.sound.step-pos,
-      refl,
       carried_none l _ c.args.from.now 0 c.args.to.now,
     )
 
 pub move_pass-at-requires : goal.move_pass-at-requires
 move_pass-at-requires g c =
     let p = c.requires in
-    (moving-on p.0 c.loop-pass.invariant.3, p.1, record { stands = c.loop-pass.invariant.1; pass-lt = c.loop-pass-test.true; place_is = c.loop-pass.invariant.2 })
-
-pub overflow_add-pass : goal.overflow_add-pass
-overflow_add-pass g c =
-    omega (arith, c.loop-pass-test.true, c.requires.0.small)
-
-pub loop-pass-smaller : goal.loop-pass-smaller
-loop-pass-smaller g c = omega (arith, c.loop-pass-test.true)
+    (moving-on p.0 c.loop-pass.auto.to, p.1, record { stands = c.loop-pass.invariant.0; pass-lt = c.loop-pass-test.true; place_is = c.loop-pass.invariant.1 })
 
 pub loop-pass-preserved : goal.loop-pass-preserved
 loop-pass-preserved g c = (
-  omega (arith, c.loop-pass-test.true),
   c.move_pass-at.ensures.stands.1,
   c.move_pass-at.ensures.stands.2,
-  c.move_pass-at.auto.to ∙ c.loop-pass.invariant.3,
   carried-join c.args.l _ c.args.from.now 0 c.loop-pass.at.nibble c.move_pass-at.result.nibble c.args.to.now _ _ (omega arith)
-      c.move_pass-at.ensures.stands.0 c.loop-pass.invariant.4 c.move_pass-at.ensures.moved,
+      c.move_pass-at.ensures.stands.0 c.loop-pass.invariant.2 c.move_pass-at.ensures.moved,
 )
 
 pub overflow_add-l : goal.overflow_add-l
@@ -66,11 +55,7 @@ overflow_add-l g c = omega (arith, c.requires.0.small)
 pub move_parity-requires : goal.move_parity-requires
 move_parity-requires g c =
     let p = c.requires in
-    (moving-on p.0 c.loop-pass.invariant.3, p.1, c.loop-pass.invariant.1, c.if-at-l.true)
-
-pub shape_of-to-then-at-l : goal.shape_of-to-then-at-l
-shape_of-to-then-at-l g c =
-    c.move_parity.auto.to ∙ c.loop-pass.invariant.3
+    (moving-on p.0 c.loop-pass.auto.to, p.1, c.loop-pass.invariant.0, c.if-at-l.true)
 
 pub returns-then-at-l : goal.returns-then-at-l
 returns-then-at-l g c =
@@ -78,13 +63,10 @@ returns-then-at-l g c =
     let (is, last) = stream_end c.args.l c.requires.0.sound n c.if-at-l.true (done g (goal.at.returns-then-at-l g c).After-loop-pass) in
     let e : c.move_parity.result.nibble ≡ n + 1 = rw is at c.move_parity.ensures.stands.0 in
     carried-join c.args.l _ c.args.from.now 0 n c.move_parity.result.nibble c.args.to.now _ _ (omega arith) (omega (arith, e))
-    c.loop-pass.invariant.4 c.move_parity.ensures.moved
+    c.loop-pass.invariant.2 c.move_parity.ensures.moved
     ∙ ap (λ (k : ℕ). carried c.args.l (flag g.row.BACK) c.args.from.now 0 k c.args.to.now) (e ∙ last)
-
-pub shape_of-to-else-at-l : goal.shape_of-to-else-at-l
-shape_of-to-else-at-l g c = c.loop-pass.invariant.3
 
 pub returns-else-at-l : goal.returns-else-at-l
 returns-else-at-l g c =
-    let e : c.loop-pass.at.nibble ≡ c.args.l.rows + c.args.l.parity = omega (arith, c.loop-pass.invariant.1.within, c.if-at-l.false) in
-    c.loop-pass.invariant.4 ∙ ap (λ (k : ℕ). carried c.args.l (flag g.row.BACK) c.args.from.now 0 k c.args.to.now) e
+    let e : c.loop-pass.at.nibble ≡ c.args.l.rows + c.args.l.parity = omega (arith, c.loop-pass.invariant.0.within, c.if-at-l.false) in
+    c.loop-pass.invariant.2 ∙ ap (λ (k : ℕ). carried c.args.l (flag g.row.BACK) c.args.from.now 0 k c.args.to.now) e

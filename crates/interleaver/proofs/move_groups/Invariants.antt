@@ -1,7 +1,6 @@
 -- `interleaver::move_groups` meets its contract. The invariant: the data nibbles of the passes before this one, and the parity nibbles among
 -- them, are carried. Assumes nothing.
 use mathlib.Core.Path.{◌≡◌}
-use Prim.Native.Nat.{◌-◌, ◌≤◌}
 use lib.ListN.{length}
 use Rattle.interleaver.specs.Rows.{passes}
 use Rattle.interleaver.specs.Source.{data_place}
@@ -11,8 +10,5 @@ use Rattle.interleaver.proofs.move_groups.Given as goal
 
 abbrev pub invariant-loop-pass : goal.invariant-loop-pass
 invariant-loop-pass g l =
-    (l.pass ≤ l.l.step) × (Stands l.l l.at) × (data_place l.l l.at.nibble ≡ length (passes l.l.rows l.l.step l.pass)) × (length l.to ≡ length l.initial.to)
+    (Stands l.l l.at) × (data_place l.l l.at.nibble ≡ length (passes l.l.rows l.l.step l.pass))
     × (l.to ≡ carried l.l (flag g.row.BACK) l.from 0 l.at.nibble l.initial.to)
-
-abbrev pub decreases-loop-pass : goal.decreases-loop-pass
-decreases-loop-pass g l = l.l.step - l.pass

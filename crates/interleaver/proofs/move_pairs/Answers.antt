@@ -1,5 +1,5 @@
 -- `interleaver::move_pairs` meets its contract. The invariant: the pairs of the passes before this one are carried. Assumes nothing.
-use mathlib.Core.Path.{◌≡◌, refl, ap, ◌∙◌}
+use mathlib.Core.Path.{◌≡◌, ap, ◌∙◌}
 use Prim.Native.Nat.{ℕ, ◌+◌, ◌*◌}
 use native.Mathlib.Omega.{arith}
 use lib.ListN.{length}
@@ -20,23 +20,21 @@ overflow_add-before g c = omega (arith, c.requires.0.small)
 pub loop-pass-init : goal.loop-pass-init
 loop-pass-init g c =
     let l = c.args.l in (
-      omega arith,
       ap (λ (k : ℕ). k * 2) (passes_none l.rows l.step c.requires.0.sound.step-pos),
-      refl,
       carried_none l _ c.args.from.now 0 c.args.to.now,
     )
 
 pub move_run-past-requires : goal.move_run-past-requires
 move_run-past-requires g c =
     let l = c.args.l in (
-      moving-on c.requires.0 c.loop-pass.invariant.2,
+      moving-on c.requires.0 c.loop-pass.auto.to,
       record {
         paired = c.requires.2;
         runs = record {
           place = length (passes l.rows l.step c.loop-pass.pass);
-          nibble-is = c.loop-pass.invariant.1;
+          nibble-is = c.loop-pass.invariant.0;
           pass-lt = c.loop-pass-test.true;
-          on-pass = on-start l.rows l.step c.requires.0.sound.step-pos c.loop-pass.pass c.loop-pass.invariant.0 (omega (arith, c.loop-pass-test.true));
+          on-pass = on-start l.rows l.step c.requires.0.sound.step-pos c.loop-pass.pass c.loop-pass.auto.pass-end (omega (arith, c.loop-pass-test.true));
         };
         end-le = omega arith;
         apart-is = λ row h b. omega (arith, moved-within l.rows l.offset row (omega arith));
@@ -49,7 +47,7 @@ move_run-last-requires g c =
     let past = c.move_run-past.ensures.stands.3 in
     let near = c.requires.1.offset-lt in
     let same = parity-is l c.requires.0.sound c.requires.2 in (
-      moving-on c.requires.0 (c.move_run-past.auto.to ∙ c.loop-pass.invariant.2),
+      moving-on c.requires.0 (c.move_run-past.auto.to ∙ c.loop-pass.auto.to),
       record {
         paired = c.requires.2;
         runs = c.move_run-past.ensures.stands.1;
@@ -57,13 +55,6 @@ move_run-last-requires g c =
         apart-is = λ row h b. omega (arith, moved-past l.rows l.offset row (omega arith) (omega arith));
       },
     )
-
-pub overflow_add-pass : goal.overflow_add-pass
-overflow_add-pass g c =
-    omega (arith, c.loop-pass-test.true, c.requires.0.small)
-
-pub loop-pass-smaller : goal.loop-pass-smaller
-loop-pass-smaller g c = omega (arith, c.loop-pass-test.true)
 
 pub loop-pass-preserved : goal.loop-pass-preserved
 loop-pass-preserved g c =
@@ -74,23 +65,18 @@ loop-pass-preserved g c =
     let place =
     pass-end l.rows l.step c.requires.0.sound.step-pos runs.place c.move_run-last.result.pass c.move_run-last.result.row runs.on-pass runs.pass-lt end
     ∙ ap (λ (k : ℕ). length (passes l.rows l.step k)) pass in (
-      omega (arith, c.loop-pass-test.true),
       runs.nibble-is ∙ ap (λ (k : ℕ). k * 2) place,
-      c.move_run-last.auto.to ∙ c.move_run-past.auto.to ∙ c.loop-pass.invariant.2,
       carried-join l _ from 0 c.move_run-past.result.nibble c.move_run-last.result.nibble c.args.to.now _ _ (omega arith) up
-          (carried-join l _ from 0 c.loop-pass.nibble c.move_run-past.result.nibble c.args.to.now _ _ (omega arith) c.move_run-past.ensures.stands.0 c.loop-pass.invariant.3
+          (carried-join l _ from 0 c.loop-pass.nibble c.move_run-past.result.nibble c.args.to.now _ _ (omega arith) c.move_run-past.ensures.stands.0 c.loop-pass.invariant.1
           c.move_run-past.ensures.moved)
           c.move_run-last.ensures.moved,
     )
 
-pub shape_of-to : goal.shape_of-to
-shape_of-to g c = c.loop-pass.invariant.2
-
 pub returns : goal.returns
 returns g c =
     let l = c.args.l in
-    let e : c.loop-pass.pass ≡ l.step = omega (arith, c.loop-pass.invariant.0, c.loop-pass-test.false) in
+    let e : c.loop-pass.pass ≡ l.step = omega (arith, c.loop-pass.auto.pass-end, c.loop-pass-test.false) in
     let all = ap (λ (j : ℕ). length (passes l.rows l.step j)) e ∙ passes-all l.rows l.step c.requires.0.sound.step-pos in
-    c.loop-pass.invariant.3
+    c.loop-pass.invariant.1
     ∙ ap (λ (k : ℕ). carried l (flag g.row.BACK) c.args.from.now 0 k c.args.to.now)
-    (c.loop-pass.invariant.1 ∙ ap (λ (k : ℕ). k * 2) all ∙ omega (arith, parity-is l c.requires.0.sound c.requires.2))
+    (c.loop-pass.invariant.0 ∙ ap (λ (k : ℕ). k * 2) all ∙ omega (arith, parity-is l c.requires.0.sound c.requires.2))

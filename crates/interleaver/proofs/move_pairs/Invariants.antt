@@ -1,6 +1,6 @@
 -- `interleaver::move_pairs` meets its contract. The invariant: the pairs of the passes before this one are carried. Assumes nothing.
 use mathlib.Core.Path.{◌≡◌}
-use Prim.Native.Nat.{◌-◌, ◌*◌, ◌≤◌}
+use Prim.Native.Nat.{◌*◌}
 use lib.ListN.{length}
 use Rattle.interleaver.specs.Rows.{passes}
 use Rattle.interleaver.specs.Loops.Stores.{flag, carried}
@@ -8,7 +8,4 @@ use Rattle.interleaver.proofs.move_pairs.Given as goal
 
 abbrev pub invariant-loop-pass : goal.invariant-loop-pass
 invariant-loop-pass g l =
-    (l.pass ≤ l.l.step) × (l.nibble ≡ length (passes l.l.rows l.l.step l.pass) * 2) × (length l.to ≡ length l.initial.to) × (l.to ≡ carried l.l (flag g.row.BACK) l.from 0 l.nibble l.initial.to)
-
-abbrev pub decreases-loop-pass : goal.decreases-loop-pass
-decreases-loop-pass g l = l.l.step - l.pass
+    (l.nibble ≡ length (passes l.l.rows l.l.step l.pass) * 2) × (l.to ≡ carried l.l (flag g.row.BACK) l.from 0 l.nibble l.initial.to)
