@@ -11,15 +11,10 @@ use Rattle.interleaver_shape.specs.Shapes.{shape_of, coded_of, coded_bits}
 use Rattle.interleaver.specs.Source.{column}
 use Rattle.interleaver.specs.Loops.RowOrder.{row_of, place_of, row_place}
 use Rattle.bits.specs.Loops.Words.{word_byte, stored}
-use Rattle.interleaver.specs.Loops.Moving.{Moving}
 use Rattle.interleaver.specs.Loops.Stores.{target, origin, carried}
 use Rattle.interleaver.proofs.SourceLaws.{column_apart}
 use Rattle.interleaver.proofs.RowLaws.{place-nibble}
 use Rattle.bits.proofs.StoreLaws.{stored-none, stored-append, stored-ext, stored-reordered}
-
--- another buffer of the same length
-pub moving-on : {L : Shape} {from to now : List ℕ} → Moving L from to → length now ≡ length to → Moving L from now
-moving-on m e = record { sound = m.sound; small = m.small; whole = m.whole; room = omega (arith, m.room, e) }
 
 -- the buffer after nibble n, whose row starts at `first`, is moved
 abbrev Moved : ℕ → ℕ → Bool → List ℕ → List ℕ → List ℕ → Type 0

@@ -1,4 +1,4 @@
--- `interleaver::move_data` meets its contract. The invariant: the next data nibble is at this row of the pass, and the nibbles before it are
+-- `interleaver::Block::move_data` meets its contract. The invariant: the next data nibble is at this row of the pass, and the nibbles before it are
 -- carried. Assumes nothing.
 use mathlib.Core.Path.{◌≡◌, refl, ap, ◌∙◌}
 use mathlib.Core.Bool.{false}
@@ -16,25 +16,25 @@ use Rattle.interleaver.proofs.RowLaws.{row-data}
 use Rattle.interleaver.proofs.WalkLaws.{pass_on, row-at}
 use Rattle.interleaver.proofs.StreamLaws.{data-step, data-due, stream-on}
 use Rattle.interleaver.proofs.NibbleLaws.{carried_none, carried-join, carried-one}
-use Rattle.interleaver.proofs.move_data.Given.{Over}
-use Rattle.interleaver.proofs.move_data.Goals as goal
-use Rattle.interleaver.proofs.move_data.Goals.{In-loop-row}
+use Rattle.interleaver.proofs.Block.move_data.Given.{Over}
+use Rattle.interleaver.proofs.Block.move_data.Goals as goal
+use Rattle.interleaver.proofs.Block.move_data.Goals.{In-loop-row}
 
 -- a data nibble comes next, in this row
 next : (g : Over) (c : In-loop-row g)
-    → (0 < until_parity c.args.l c.loop-row.nibble) × (is_parity c.args.l c.loop-row.nibble ≡ false)
-    × (pass_row c.args.l.rows c.args.l.step (data_place c.args.l c.loop-row.nibble) ≡ c.loop-row.row)
-    × (c.loop-row.nibble < c.args.l.rows + c.args.l.parity) × (c.loop-row.row < c.args.l.rows)
+    → (0 < until_parity c.args.self.now.shape c.loop-row.nibble) × (is_parity c.args.self.now.shape c.loop-row.nibble ≡ false)
+    × (pass_row c.args.self.now.shape.rows c.args.self.now.shape.step (data_place c.args.self.now.shape c.loop-row.nibble) ≡ c.loop-row.row)
+    × (c.loop-row.nibble < c.args.self.now.shape.rows + c.args.self.now.shape.parity) × (c.loop-row.row < c.args.self.now.shape.rows)
 next g c =
-    let l = c.args.l in
+    let l = c.args.self.now.shape in
     let u = until_parity l c.loop-row.nibble in
     let below : c.loop-row.row < l.rows = omega (arith, c.loop-row-test.true, c.requires.1.end-le) in
     let some : 0 < u =
     lt-cases 0 u (λ h. h)
     (λ h. let z : u ≡ 0 = omega arith in absurd (omega (arith, c.loop-row-test.true, c.loop-row.invariant.3, ap (λ (x : ℕ). x * l.step) z))) in
     let (row, place) =
-    row-at l.rows l.step c.requires.0.sound.step-pos (data_place l c.loop-row.nibble) c.args.start.pass c.loop-row.row c.loop-row.invariant.2 c.requires.1.pass-lt below in
-    (some, data-due l c.requires.0.sound c.loop-row.nibble some, row, stream-on l c.requires.0.sound c.loop-row.nibble place, below)
+    row-at l.rows l.step c.args.self.now.orderly.step-pos (data_place l c.loop-row.nibble) c.args.start.pass c.loop-row.row c.loop-row.invariant.2 c.requires.1.pass-lt below in
+    (some, data-due l c.args.self.now.orderly c.loop-row.nibble some, row, stream-on l c.args.self.now.orderly c.loop-row.nibble place, below)
 
 pub loop-row-init : goal.loop-row-init
 loop-row-init g c = (
@@ -45,44 +45,44 @@ loop-row-init g c = (
   refl,
   refl,
   refl,
-  carried_none c.args.l _ c.args.from.now c.args.start.nibble c.args.to.now,
+  carried_none c.args.self.now.shape _ c.args.self.now.from.now c.args.start.nibble c.args.to.now,
 )
 
 pub overflow_mul-row : goal.overflow_mul-row
-overflow_mul-row g c = omega (arith, (next g c).4, c.requires.0.small)
+overflow_mul-row g c = omega (arith, (next g c).4, c.args.self.now.small)
 
 pub move_nibble-requires : goal.move_nibble-requires
 move_nibble-requires g c =
     let (some, is, at, n, row) = next g (goal.at.move_nibble-requires g c).In-loop-row in
-    let room : coded_of c.args.l ≤ length c.loop-row.to = omega (arith, c.requires.0.room, c.loop-row.invariant.6) in
-    record { coded-from = omega (arith, c.requires.0.whole); coded-to = omega arith; row_from = omega (arith, c.requires.0.whole); row-to = omega arith }
+    let room : coded_of c.args.self.now.shape ≤ length c.loop-row.to = omega (arith, c.requires.0, c.loop-row.invariant.6) in
+    record { coded-from = omega (arith, c.args.self.now.whole); coded-to = omega arith; row_from = omega (arith, c.args.self.now.whole); row-to = omega arith }
 
 pub overflow_add-nibble : goal.overflow_add-nibble
 overflow_add-nibble g c =
-    omega (arith, (next g (goal.at.overflow_add-nibble g c).In-loop-row).3, c.requires.0.small)
+    omega (arith, (next g (goal.at.overflow_add-nibble g c).In-loop-row).3, c.args.self.now.small)
 
 pub overflow_add-row : goal.overflow_add-row
 overflow_add-row g c =
-    omega (arith, (next g (goal.at.overflow_add-row g c).In-loop-row).4, c.requires.0.small)
+    omega (arith, (next g (goal.at.overflow_add-row g c).In-loop-row).4, c.args.self.now.small)
 
 pub loop-row-smaller : goal.loop-row-smaller
 loop-row-smaller g c =
-    omega (arith, c.loop-row-test.true, c.requires.0.sound.step-pos)
+    omega (arith, c.loop-row-test.true, c.args.self.now.orderly.step-pos)
 
 pub loop-row-preserved : goal.loop-row-preserved
 loop-row-preserved g c =
-    let l = c.args.l in
+    let l = c.args.self.now.shape in
     let n = c.loop-row.nibble in
     let u = until_parity l n in
-    let from = c.args.from.now in
+    let from = c.args.self.now.from.now in
     let (some, is, at, within, below) = next g (goal.at.loop-row-preserved g c).In-loop-row in
-    let (place, parity, left) = data-step l c.requires.0.sound n is in
+    let (place, parity, left) = data-step l c.args.self.now.orderly n is in
     let row : c.loop-row.row ≡ row_of l n = omega (arith, at, row-data l n is) in
     let on : data_place l n + 1 ≡ data_place l (n + 1) = omega arith in
     let down : until_parity l (n + 1) + 1 ≡ u = omega arith in (
       omega (arith, c.loop-row.invariant.0),
       omega arith,
-      rw on at (pass_on l.rows l.step c.requires.0.sound.step-pos (data_place l n) c.args.start.pass c.loop-row.row c.loop-row.invariant.2 below),
+      rw on at (pass_on l.rows l.step c.args.self.now.orderly.step-pos (data_place l n) c.args.start.pass c.loop-row.row c.loop-row.invariant.2 below),
       omega (arith, c.loop-row.invariant.3, add-mul (until_parity l (n + 1)) 1 l.step, ap (λ (y : ℕ). y * l.step) down),
       parity ∙ c.loop-row.invariant.4,
       omega (arith, c.loop-row.invariant.5, down),
