@@ -1,5 +1,5 @@
 -- Nibbles carried from rows to coded bits, or back. Assumes nothing.
-use mathlib.Core.Path.{◌≡◌, sym, ap, ap₂, ◌∙◌}
+use mathlib.Core.Path.{◌≡◌, sym, ap, ◌∙◌}
 use mathlib.Core.Bool.{Bool, true, false, cond}
 use mathlib.Core.List.{List}
 use Prim.Native.Nat.{ℕ, ◌+◌, ◌-◌, ◌*◌, ◌/◌, ◌%◌, ◌<◌, ◌≤◌}
@@ -11,15 +11,10 @@ use Rattle.interleaver_shape.specs.Shapes.{shape_of, coded_of, coded_bits}
 use Rattle.interleaver.specs.Source.{column}
 use Rattle.interleaver.specs.Loops.RowOrder.{row_of, place_of, row_place}
 use Rattle.bits.specs.Loops.Words.{word_byte, stored}
-use Rattle.interleaver.specs.Loops.Moving.{Moving}
 use Rattle.interleaver.specs.Loops.Stores.{target, origin, carried}
 use Rattle.interleaver.proofs.SourceLaws.{column_apart}
 use Rattle.interleaver.proofs.RowLaws.{place-nibble}
 use Rattle.bits.proofs.StoreLaws.{stored-none, stored-append, stored-ext, stored-reordered}
-
--- another buffer of the same length
-pub moving-on : {L : Shape} {from to now : List ℕ} → Moving L from to → length now ≡ length to → Moving L from now
-moving-on m e = record { sound = m.sound; small = m.small; whole = m.whole; room = omega (arith, m.room, e) }
 
 -- the buffer after nibble n, whose row starts at `first`, is moved
 abbrev Moved : ℕ → ℕ → Bool → List ℕ → List ℕ → List ℕ → Type 0
@@ -114,11 +109,11 @@ module _ (L : Shape) (back : Bool) (from : List ℕ) where
       d ∙ stored-ext ((L.rows + L.parity - 0) * 4) _ _ place value to (λ i b. ap place (start i)) (λ i b. ap value (start i))
       ∙ ap (λ (k : ℕ). stored k place value to) count
 
--- all nibbles of a block of a kind and rate, and the way that they were carried
-pub carried-block : (kind rate : ℕ) (back way : Bool) (from to now : List ℕ) (L : Shape) → L ≡ shape_of kind rate → back ≡ way
-    → now ≡ carried L way from 0 (L.rows + L.parity) to
+-- all nibbles of a block of a kind and rate
+pub carried-block : (kind rate : ℕ) (back : Bool) (from to now : List ℕ) (L : Shape) → L ≡ shape_of kind rate
+    → now ≡ carried L back from 0 (L.rows + L.parity) to
     → now ≡ stored (coded_bits kind rate) (target back (row_place kind rate)) (λ i. get_or from (origin back (row_place kind rate) i) 0) to
 unfolding coded_bits row_place
-carried-block kind rate back way from to now L e t d =
-    carried-all L way from to now d
-    ∙ ap₂ (λ (K : Shape) (b : Bool). stored (coded_of K) (target b (place_of K)) (λ i. get_or from (origin b (place_of K) i) 0) to) e (sym t)
+carried-block kind rate back from to now L e d =
+    carried-all L back from to now d
+    ∙ ap (λ (K : Shape). stored (coded_of K) (target back (place_of K)) (λ i. get_or from (origin back (place_of K) i) 0) to) e

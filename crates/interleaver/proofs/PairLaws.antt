@@ -7,7 +7,8 @@ use native.Mathlib.Omega.{arith}
 use lib.Dec.{ltb}
 use borrow.Author.Tests.{le-ltb, eq-eqb, ne_eqb}
 use Rattle.interleaver_shape.specs.declared.Shape.{Shape}
-use Rattle.interleaver_shape.specs.Loops.Bounds.{Sound, Paired}
+use Rattle.interleaver_shape.specs.Loops.Bounds.{Paired}
+use Rattle.interleaver.specs.Loops.Moving.{Orderly}
 use Rattle.interleaver.specs.Rows.{pass_row, moved_row}
 use Rattle.interleaver.specs.Source.{parity_row, group_of, place_in, is_parity, data_place}
 use Rattle.interleaver.specs.Loops.RowOrder.{row_of}
@@ -22,7 +23,7 @@ Pair L p row =
     (row ≡ row_of L (p * 2)) × (L.rows + moved_row L.rows L.offset row ≡ row_of L (p * 2 + 1))
     × (p < L.rows) × (moved_row L.rows L.offset row < L.rows)
 
-module _ (L : Shape) (S : Sound L) (P : Paired L) where
+module _ (L : Shape) (S : Orderly L) (P : Paired L) where
   pub parity-is : L.parity ≡ L.rows
   parity-is = let e = rw P.group-is at S.rows_are in omega arith
 

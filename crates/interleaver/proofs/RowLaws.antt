@@ -14,7 +14,7 @@ use Rattle.interleaver_shape.specs.Loops.Bounds.{Sound}
 use Rattle.interleaver_shape.specs.Shapes.{coded_of}
 use Rattle.interleaver.specs.Source.{data_row, parity_row, group_of, is_parity, data_place, nibble_bit, column, source_of}
 use Rattle.interleaver.specs.Loops.RowOrder.{row_of, place_of, source_at}
-use Rattle.interleaver.proofs.SourceLaws.{data-row-lt, parity-row-lt, bit-data, bit-parity, source-permutes}
+use Rattle.interleaver.proofs.SourceLaws.{orderly, data-row-lt, parity-row-lt, bit-data, bit-parity, source-permutes}
 
 -- the places of the coded bits of nibble n
 pub place-nibble : (L : Shape) (n b : ℕ) → b < 4 → place_of L (n * 4 + b) ≡ row_of L n * 4 + column n b
@@ -51,17 +51,17 @@ module _ (L : Shape) (S : Sound L) where
   row_lt n h =
       test-cases (is_parity L n)
       (λ t. omega (arith, row-parity L n t, parity-row-lt L S n h))
-      (λ t. omega (arith, row-data L n t, data-row-lt L S n h t))
+      (λ t. omega (arith, row-data L n t, data-row-lt L (orderly S) n h t))
 
   -- each place of a nibble's row holds the source bit of its column
   at-nibble : (n c : ℕ) → n < L.rows + L.parity → c < 4 → source_at L (row_of L n * 4 + c) ≡ nibble_bit L n c
   at-nibble n c h hc =
       test-cases (is_parity L n)
       (λ t.
-      ap (λ (r : ℕ). source_at L (r * 4 + c)) (row-parity L n t) ∙ at-parity L (parity_row L (group_of L n)) c hc ∙ sym (bit-parity L S n c t))
+      ap (λ (r : ℕ). source_at L (r * 4 + c)) (row-parity L n t) ∙ at-parity L (parity_row L (group_of L n)) c hc ∙ sym (bit-parity L (orderly S) n c t))
       (λ t.
-      ap (λ (r : ℕ). source_at L (r * 4 + c)) (row-data L n t) ∙ at-data L (data_row L (data_place L n)) c hc (data-row-lt L S n h t)
-      ∙ sym (bit-data L S n c t))
+      ap (λ (r : ℕ). source_at L (r * 4 + c)) (row-data L n t) ∙ at-data L (data_row L (data_place L n)) c hc (data-row-lt L (orderly S) n h t)
+      ∙ sym (bit-data L (orderly S) n c t))
 
   pub source-at-place : (i : ℕ) → i < coded_of L → source_at L (place_of L i) ≡ source_of L i
   unfolding place_of source_of

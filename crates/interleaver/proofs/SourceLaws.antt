@@ -13,6 +13,7 @@ use Rattle.interleaver_shape.specs.declared.Shape.{Shape}
 use Rattle.interleaver.specs.Rows.{pass_row, moved_row, continuous_row}
 use Rattle.interleaver_shape.specs.Loops.Bounds.{Sound}
 use Rattle.interleaver_shape.specs.Shapes.{coded_of}
+use Rattle.interleaver.specs.Loops.Moving.{Orderly}
 use Rattle.interleaver.specs.Source.{data_row, parity_row, group_of, place_in, is_parity, data_place, nibble_bit, column, source_of}
 use Rattle.interleaver.proofs.PassLaws.{pass-permutes, moved-permutes, continuous-permutes}
 
@@ -55,11 +56,7 @@ pub row_moved : (L : Shape) (p : ℕ) → L.continuous ≡ false → parity_row 
 unfolding parity_row
 row_moved L p e = rw e
 
-module _ (L : Shape) (S : Sound L) where
-  pub parity-permutes : Permutes L.parity (parity_row L)
-  unfolding parity_row
-  parity-permutes = order-permutes L.parity L.step L.offset L.continuous S.step-pos S.continuous-ok
-
+module _ (L : Shape) (S : Orderly L) where
   pub data-permutes : Permutes L.rows (data_row L)
   data-permutes = pass-permutes L.rows L.step S.step-pos
 
@@ -102,39 +99,50 @@ module _ (L : Shape) (S : Sound L) where
   unfolding nibble_bit
   bit-parity n c e = rw e
 
-  module _ (n : ℕ) (h : n < L.rows + L.parity) where
-    pub data-row-lt : is_parity L n ≡ false → data_row L (data_place L n) < L.rows
-    data-row-lt e = data-permutes.below (data_place L n) (data-place-lt n h e)
+  pub data-row-lt : (n : ℕ) → n < L.rows + L.parity → is_parity L n ≡ false → data_row L (data_place L n) < L.rows
+  data-row-lt n h e = data-permutes.below (data_place L n) (data-place-lt n h e)
 
+pub orderly : {L : Shape} → Sound L → Orderly L
+orderly S = record { step-pos = S.step-pos; group-pos = S.group-pos; lead-le = S.lead-le; rows_are = S.rows_are }
+
+module _ (L : Shape) (S : Sound L) where
+  O : Orderly L
+  O = orderly S
+
+  pub parity-permutes : Permutes L.parity (parity_row L)
+  unfolding parity_row
+  parity-permutes = order-permutes L.parity L.step L.offset L.continuous S.step-pos S.continuous-ok
+
+  module _ (n : ℕ) (h : n < L.rows + L.parity) where
     pub parity-row-lt : parity_row L (group_of L n) < L.parity
-    parity-row-lt = parity-permutes.below (group_of L n) (group-lt n h)
+    parity-row-lt = parity-permutes.below (group_of L n) (group-lt L O n h)
 
     -- data bits come before parity bits
     data-bit-lt : (c : ℕ) → c < 4 → is_parity L n ≡ false → nibble_bit L n c < L.rows * 4
-    data-bit-lt c hc e = omega (arith, bit-data n c e, digits_lt {m = 4} {c = L.rows} hc (data-row-lt e))
+    data-bit-lt c hc e = omega (arith, bit-data L O n c e, digits_lt {m = 4} {c = L.rows} hc (data-row-lt L O n h e))
 
     parity-bit-le : (c : ℕ) → is_parity L n ≡ true → L.rows * 4 ≤ nibble_bit L n c
-    parity-bit-le c e = omega (arith, bit-parity n c e)
+    parity-bit-le c e = omega (arith, bit-parity L O n c e)
 
     pub bit-lt : (c : ℕ) → c < 4 → nibble_bit L n c < coded_of L
     bit-lt c hc = go (is_parity L n) refl
       where
         go : (b : Bool) → is_parity L n ≡ b → nibble_bit L n c < coded_of L
         go false e = omega (arith, data-bit-lt c hc e)
-        go true e = omega (arith, bit-parity n c e, digits_lt {m = 4} {c = L.parity} hc parity-row-lt)
+        go true e = omega (arith, bit-parity L O n c e, digits_lt {m = 4} {c = L.parity} hc parity-row-lt)
 
   module _ (n m c d : ℕ) (hn : n < L.rows + L.parity) (hm : m < L.rows + L.parity) (hc : c < 4) (hd : d < 4) where
     same-data : is_parity L n ≡ false → is_parity L m ≡ false → nibble_bit L n c ≡ nibble_bit L m d → (n ≡ m) × (c ≡ d)
     same-data p q e =
-        let rn = data-row-lt n hn p in
-        let rm = data-row-lt m hm q in
+        let rn = data-row-lt L O n hn p in
+        let rm = data-row-lt L O m hm q in
         let z : c * L.rows + data_row L (data_place L n) ≡ d * L.rows + data_row L (data_place L m) =
-        sym (bit-data n c p) ∙ e ∙ bit-data m d q in
+        sym (bit-data L O n c p) ∙ e ∙ bit-data L O m d q in
         let row : data_row L (data_place L n) ≡ data_row L (data_place L m) =
         sym (digits_mod c rn) ∙ ap (λ (x : ℕ). x % L.rows) z ∙ digits_mod d rm in
         let place : data_place L n ≡ data_place L m =
-        data-permutes.apart (data_place L n) (data_place L m) (data-place-lt n hn p) (data-place-lt m hm q) row in (
-          sym (data-back n p) ∙ ap nibble-of place ∙ data-back m q,
+        (data-permutes L O).apart (data_place L n) (data_place L m) (data-place-lt L O n hn p) (data-place-lt L O m hm q) row in (
+          sym (data-back L O n p) ∙ ap (nibble-of L O) place ∙ data-back L O m q,
           sym (digits_div c rn) ∙ ap (λ (x : ℕ). x / L.rows) z ∙ digits_div d rm,
         )
 
@@ -143,12 +151,12 @@ module _ (L : Shape) (S : Sound L) where
         let rn = parity-row-lt n hn in
         let rm = parity-row-lt m hm in
         let z : c * L.parity + parity_row L (group_of L n) ≡ d * L.parity + parity_row L (group_of L m) =
-        omega (arith, bit-parity n c p, bit-parity m d q) in
+        omega (arith, bit-parity L O n c p, bit-parity L O m d q) in
         let row : parity_row L (group_of L n) ≡ parity_row L (group_of L m) =
         sym (digits_mod c rn) ∙ ap (λ (x : ℕ). x % L.parity) z ∙ digits_mod d rm in
         let place : group_of L n ≡ group_of L m =
-        parity-permutes.apart (group_of L n) (group_of L m) (group-lt n hn) (group-lt m hm) row in (
-          sym (parity-back n p) ∙ ap (λ (g : ℕ). g * (L.group + 1) + L.lead) place ∙ parity-back m q,
+        parity-permutes.apart (group_of L n) (group_of L m) (group-lt L O n hn) (group-lt L O m hm) row in (
+          sym (parity-back L O n p) ∙ ap (λ (g : ℕ). g * (L.group + 1) + L.lead) place ∙ parity-back L O m q,
           sym (digits_div c rn) ∙ ap (λ (x : ℕ). x / L.parity) z ∙ digits_div d rm,
         )
 

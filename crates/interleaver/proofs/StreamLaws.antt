@@ -11,7 +11,7 @@ use borrow.Author.Tests.{lt-ltb, le-ltb, eqb-true, eqb-false, eq-eqb, ne_eqb}
 use Rattle.bits.proofs.BoolLaws.{test-cases}
 use Rattle.bits.proofs.NumberLaws.{lt-cases}
 use Rattle.interleaver_shape.specs.declared.Shape.{Shape}
-use Rattle.interleaver_shape.specs.Loops.Bounds.{Sound}
+use Rattle.interleaver.specs.Loops.Moving.{Orderly}
 use Rattle.interleaver.specs.Source.{group_of, place_in, is_parity, data_place}
 use Rattle.interleaver.specs.Loops.Walks.{parity_place, until_parity}
 use Rattle.interleaver.proofs.SourceLaws.{place-lt, group-lt, data-place-lt}
@@ -20,7 +20,7 @@ use Rattle.interleaver.proofs.SourceLaws.{place-lt, group-lt, data-place-lt}
 abbrev Counts : Shape → ℕ → ℕ → ℕ → ℕ → Type 0
 Counts L n d p left = (data_place L n ≡ d) × (parity_place L n ≡ p) × (until_parity L n ≡ left)
 
-module _ (L : Shape) (S : Sound L) where
+module _ (L : Shape) (S : Orderly L) where
   parts : (n : ℕ) → group_of L n * (L.group + 1) + place_in L n ≡ n
   parts n = div-add-mod' n (L.group + 1)
 

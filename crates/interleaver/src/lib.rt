@@ -4,19 +4,19 @@
 // Internal: nothing here is a public entry. A function with a `requires` is called only where its caller has shown it.
 #![tactic(auto)]
 
-ghost use Rattle.std.specs.Prelude.{◌≡◌, false, cond, ◌+◌, ◌*◌, ◌/◌, ◌%◌, ◌<◌, ◌≤◌, min, length, get_or};
+ghost use Rattle.std.specs.Prelude.{◌≡◌, true, cond, ◌+◌, ◌*◌, ◌/◌, ◌%◌, ◌<◌, ◌≤◌, length, get_or};
 ghost use Rattle.bits.specs.Lists.{written};
-ghost use Rattle.card.specs.Modes.{Defined};
 ghost use Rattle.interleaver.specs.Rows.{passes, moved_row};
-ghost use Rattle.interleaver_shape.specs.Shapes.{coded_bits};
-ghost use Rattle.interleaver_shape.specs.Loops.Bounds.{Near, Paired};
+ghost use Rattle.interleaver_shape.specs.Shapes.{coded_of, coded_bits};
+ghost use Rattle.interleaver_shape.specs.Loops.Bounds.{Small, Near, Paired};
 ghost use Rattle.interleaver.specs.Source.{is_parity, data_place, column, coded_at};
 ghost use Rattle.interleaver.specs.Loops.RowOrder.{row_place, row_source};
 ghost use Rattle.interleaver.specs.Loops.Walks.{OnPass, parity_place, until_parity, Stands, Runs};
 ghost use Rattle.bits.specs.Loops.Words.{stored};
-ghost use Rattle.interleaver.specs.Loops.Moving.{Within, Moving, Continuous, BeforePass, DataRun, PairRun};
+ghost use Rattle.interleaver.specs.Loops.Moving.{Within, Orderly, BeforePass, DataRun, PairRun};
 ghost use Rattle.interleaver.specs.Loops.Stores.{target, origin, carried};
 
+use coding::Coding;
 use interleaver_shape::Shape;
 
 // Where the joined stream stands: its next nibble, how many data nibbles come before its next parity nibble, and that nibble's row.
@@ -44,200 +44,195 @@ fn moved_row(rows: usize, offset: usize, row: usize) -> usize
     if moved < rows { moved } else { moved - rows }
 }
 
-// The four bits of nibble n, which is rotated by `rotation` and whose row starts at `first`, from rows to coded bits or back.
-fn move_word(n: usize, rotation: u32, first: usize, back: bool, from: &[u8], to: &mut [u8])
-    requires { (rotation ≡ n / 2 % 4) × Within n first from.now to.old }
-    ensures { to.new ≡ stored 4 (λ b. cond back (first + column n b) (n * 4 + b))
-        (λ b. get_or from.now (cond back (n * 4 + b) (first + column n b)) 0) to.old }
-{
-    if back {
-        let word = bits::gather(from, n * 4, 1);
-        bits::scatter(bits::rotated_back(word, rotation), first, 1, to);
-    } else {
-        let word = bits::gather(from, first, 1);
-        bits::scatter(bits::rotated(word, rotation), n * 4, 1, to);
+// A block's bits as they come, in rows or coded, and the shape by which they go on.
+#[derive(Clone, Copy)]
+struct Block<'a> {
+    shape: Shape,
+    from: &'a [u8],
+    ghost orderly: { Orderly shape },
+    ghost small: { Small shape },
+    ghost near: { Near shape },
+    ghost whole: { length from.now ≡ coded_of shape },
+}
+
+impl Block<'_> {
+    // The four bits of nibble n, which is rotated by `rotation` and whose row starts at `first`, from rows to coded bits or back.
+    fn move_word<const BACK: bool>(&self, n: usize, rotation: u32, first: usize, to: &mut [u8])
+        requires { (rotation ≡ n / 2 % 4) × Within n first self.now.from.now to.old }
+        ensures { to.new ≡ stored 4 (λ b. cond BACK (first + column n b) (n * 4 + b))
+            (λ b. get_or self.now.from.now (cond BACK (n * 4 + b) (first + column n b)) 0) to.old }
+    {
+        if BACK {
+            let word = bits::gather(self.from, n * 4, 1);
+            bits::scatter(bits::rotated_back(word, rotation), first, 1, to);
+        } else {
+            let word = bits::gather(self.from, first, 1);
+            bits::scatter(bits::rotated(word, rotation), n * 4, 1, to);
+        }
     }
-}
 
-// The four bits of nibble n, whose row starts at `first`, from rows to coded bits or back.
-fn move_nibble(n: usize, first: usize, back: bool, from: &[u8], to: &mut [u8])
-    requires { Within n first from.now to.old }
-    ensures { to.new ≡ stored 4 (λ b. cond back (first + column n b) (n * 4 + b))
-        (λ b. get_or from.now (cond back (n * 4 + b) (first + column n b)) 0) to.old }
-{
-    move_word(n, (n / 2 % 4) as u32, first, back, from, to);
-}
-
-// The parity nibble that the joined stream stands at, if it stands at one, and where the stream stands after it.
-fn move_parity(l: Shape, at: Stand, back: bool, from: &[u8], to: &mut [u8]) -> Stand
-    requires { Moving l from.now to.old × Continuous l × Stands l at × (at.nibble < l.rows + l.parity) }
-    ensures stands { (result.nibble ≡ at.nibble + cond (is_parity l at.nibble) 1 0) × (Stands l result) × (0 < result.left) }
-    ensures moved { to.new ≡ carried l back from.now at.nibble result.nibble to.old }
-{
-    if 0 < at.left {
-        return at;
+    // The four bits of nibble n, whose row starts at `first`, from rows to coded bits or back.
+    fn move_nibble<const BACK: bool>(&self, n: usize, first: usize, to: &mut [u8])
+        requires { Within n first self.now.from.now to.old }
+        ensures { to.new ≡ stored 4 (λ b. cond BACK (first + column n b) (n * 4 + b))
+            (λ b. get_or self.now.from.now (cond BACK (n * 4 + b) (first + column n b)) 0) to.old }
+    {
+        self.move_word::<BACK>(n, (n / 2 % 4) as u32, first, to);
     }
-    move_nibble(at.nibble, (l.rows + at.row) * 4, back, from, to);
-    Stand {
-        nibble: at.nibble + 1,
-        left: l.group,
-        row: moved_row(l.parity, l.step, at.row),
+
+    // The parity nibble that the joined stream stands at, if it stands at one, and where the stream stands after it.
+    fn move_parity<const BACK: bool>(&self, at: Stand, to: &mut [u8]) -> Stand
+        requires { (coded_of self.now.shape ≤ length to.old) × (self.now.shape.continuous ≡ true) × Stands self.now.shape at × (at.nibble < self.now.shape.rows + self.now.shape.parity) }
+        ensures stands { (result.nibble ≡ at.nibble + cond (is_parity self.now.shape at.nibble) 1 0) × (Stands self.now.shape result) × (0 < result.left) }
+        ensures moved { to.new ≡ carried self.now.shape BACK self.now.from.now at.nibble result.nibble to.old }
+    {
+        if 0 < at.left {
+            return at;
+        }
+        self.move_nibble::<BACK>(at.nibble, (self.shape.rows + at.row) * 4, to);
+        Stand {
+            nibble: at.nibble + 1,
+            left: self.shape.group,
+            row: moved_row(self.shape.parity, self.shape.step, at.row),
+        }
     }
-}
 
-// Data nibbles of a pass, as long as the row is below `end`, with no parity nibble among them.
-fn move_data(l: Shape, start: Run, end: usize, back: bool, from: &[u8], to: &mut [u8]) -> Run
-    requires { Moving l from.now to.old × DataRun l start end }
-    ensures stands { (start.nibble ≤ result.nibble) × (result.nibble ≤ l.rows + l.parity)
-        × (OnPass l.rows l.step (data_place l result.nibble) start.pass result.row) × (end ≤ result.row)
-        × (parity_place l result.nibble ≡ parity_place l start.nibble)
-        × (until_parity l result.nibble + result.nibble ≡ until_parity l start.nibble + start.nibble) }
-    ensures moved { to.new ≡ carried l back from.now start.nibble result.nibble to.old }
-{
-    let pass = start.pass;
-    let mut nibble = start.nibble;
-    let mut row = start.row;
-    while row < end {
-        move_nibble(nibble, row * 4, back, from, to);
-        nibble += 1;
-        row += l.step;
+    // Data nibbles of a pass, as long as the row is below `end`, with no parity nibble among them.
+    fn move_data<const BACK: bool>(&self, start: Run, end: usize, to: &mut [u8]) -> Run
+        requires { (coded_of self.now.shape ≤ length to.old) × DataRun self.now.shape start end }
+        ensures stands { (start.nibble ≤ result.nibble) × (result.nibble ≤ self.now.shape.rows + self.now.shape.parity)
+            × (OnPass self.now.shape.rows self.now.shape.step (data_place self.now.shape result.nibble) start.pass result.row) × (end ≤ result.row)
+            × (parity_place self.now.shape result.nibble ≡ parity_place self.now.shape start.nibble)
+            × (until_parity self.now.shape result.nibble + result.nibble ≡ until_parity self.now.shape start.nibble + start.nibble) }
+        ensures moved { to.new ≡ carried self.now.shape BACK self.now.from.now start.nibble result.nibble to.old }
+    {
+        let pass = start.pass;
+        let mut nibble = start.nibble;
+        let mut row = start.row;
+        while row < end {
+            self.move_nibble::<BACK>(nibble, row * 4, to);
+            nibble += 1;
+            row += self.shape.step;
+        }
+        Run { nibble, row, pass }
     }
-    Run { nibble, row, pass }
-}
 
-// The lesser of the two.
-fn least(a: usize, b: usize) -> usize
-    ensures { result ≡ min a b }
-{
-    if a < b { a } else { b }
-}
+    // The data nibbles of a pass, and the parity nibbles before each of them.
+    fn move_pass<const BACK: bool>(&self, pass: usize, start: Stand, to: &mut [u8]) -> Stand
+        requires { (coded_of self.now.shape ≤ length to.old) × (self.now.shape.continuous ≡ true) × BeforePass self.now.shape pass start }
+        ensures stands { (start.nibble ≤ result.nibble) × (Stands self.now.shape result)
+            × (data_place self.now.shape result.nibble ≡ length (passes self.now.shape.rows self.now.shape.step (pass + 1))) }
+        ensures moved { to.new ≡ carried self.now.shape BACK self.now.from.now start.nibble result.nibble to.old }
+    {
+        let mut at = start;
+        let mut row = pass;
+        while row < self.shape.rows {
+            let data = self.move_parity::<BACK>(at, to);
+            let first = Run {
+                nibble: data.nibble,
+                row,
+                pass,
+            };
+            let end = self.shape.rows.min(row + data.left * self.shape.step);
+            let last = self.move_data::<BACK>(first, end, to);
+            at = Stand {
+                nibble: last.nibble,
+                left: data.left + data.nibble - last.nibble,
+                row: data.row,
+            };
+            row = last.row;
+        }
+        at
+    }
 
-// The data nibbles of a pass, and the parity nibbles before each of them.
-fn move_pass(l: Shape, pass: usize, start: Stand, back: bool, from: &[u8], to: &mut [u8]) -> Stand
-    requires { Moving l from.now to.old × Continuous l × BeforePass l pass start }
-    ensures stands { (start.nibble ≤ result.nibble) × (Stands l result)
-        × (data_place l result.nibble ≡ length (passes l.rows l.step (pass + 1))) }
-    ensures moved { to.new ≡ carried l back from.now start.nibble result.nibble to.old }
-{
-    let mut at = start;
-    let mut row = pass;
-    while row < l.rows {
-        let data = move_parity(l, at, back, from, to);
-        let first = Run {
-            nibble: data.nibble,
-            row,
-            pass,
+    // All nibbles of a shape whose parity rows are read on without a restart.
+    fn move_groups<const BACK: bool>(&self, to: &mut [u8])
+        requires { (coded_of self.now.shape ≤ length to.old) × (self.now.shape.continuous ≡ true) }
+        ensures { to.new ≡ carried self.now.shape BACK self.now.from.now 0 (self.now.shape.rows + self.now.shape.parity) to.old }
+    {
+        let mut at = Stand {
+            nibble: 0,
+            left: self.shape.lead,
+            row: self.shape.offset,
         };
-        let end = least(l.rows, row + data.left * l.step);
-        let last = move_data(l, first, end, back, from, to);
-        at = Stand {
-            nibble: last.nibble,
-            left: data.left + data.nibble - last.nibble,
-            row: data.row,
-        };
-        row = last.row;
+        for pass in 0..self.shape.step {
+            at = self.move_pass::<BACK>(pass, at, to);
+        }
+        if at.nibble < self.shape.rows + self.shape.parity {
+            self.move_parity::<BACK>(at, to);
+        }
     }
-    at
+
+    // Pairs of a pass, as long as the row is below `end`. Both nibbles of a pair are rotated alike, and its parity row stands `apart` after its
+    // data row.
+    fn move_run<const BACK: bool>(&self, start: Run, end: usize, apart: usize, to: &mut [u8]) -> Run
+        requires { (coded_of self.now.shape ≤ length to.old) × PairRun self.now.shape start end apart }
+        ensures stands { (start.nibble ≤ result.nibble) × (Runs self.now.shape result) × (result.pass ≡ start.pass) × (end ≤ result.row) }
+        ensures moved { to.new ≡ carried self.now.shape BACK self.now.from.now start.nibble result.nibble to.old }
+    {
+        let pass = start.pass;
+        let mut nibble = start.nibble;
+        let mut row = start.row;
+        while row < end {
+            let rotation = (nibble / 2 % 4) as u32;
+            self.move_word::<BACK>(nibble, rotation, row * 4, to);
+            self.move_word::<BACK>(nibble + 1, rotation, (apart + row) * 4, to);
+            nibble += 2;
+            row += self.shape.step;
+        }
+        Run { nibble, row, pass }
+    }
+
+    // All nibbles of a shape of pairs. The parity rows of a pass go past the end once, and then on from the first row.
+    fn move_pairs<const BACK: bool>(&self, to: &mut [u8])
+        requires { (coded_of self.now.shape ≤ length to.old) × Paired self.now.shape }
+        ensures { to.new ≡ carried self.now.shape BACK self.now.from.now 0 (self.now.shape.rows + self.now.shape.parity) to.old }
+    {
+        let bend = self.shape.rows - self.shape.offset;
+        let before = self.shape.rows + self.shape.offset;
+        let mut nibble: usize = 0;
+        for pass in 0..self.shape.step {
+            let start = Run {
+                nibble,
+                row: pass,
+                pass,
+            };
+            let past = self.move_run::<BACK>(start, bend, before, to);
+            let last = self.move_run::<BACK>(past, self.shape.rows, self.shape.offset, to);
+            nibble = last.nibble;
+        }
+    }
 }
 
-// All nibbles of a shape whose parity rows are read on without a restart.
-fn move_groups(l: Shape, back: bool, from: &[u8], to: &mut [u8])
-    requires { Moving l from.now to.old × Continuous l }
-    ensures { to.new ≡ carried l back from.now 0 (l.rows + l.parity) to.old }
+// All bits of a block, from rows to coded bits or back.
+fn move_bits<const BACK: bool>(coding: Coding, from: &[u8], to: &mut [u8])
+    requires { (length from.now ≡ coded_bits coding.kind coding.rate) × (coded_bits coding.kind coding.rate ≤ length to.old) }
+    ensures { to.new ≡ stored (coded_bits coding.kind coding.rate) (target BACK (row_place coding.kind coding.rate))
+        (λ i. get_or from.now (origin BACK (row_place coding.kind coding.rate) i) 0) to.old }
 {
-    let mut at = Stand {
-        nibble: 0,
-        left: l.lead,
-        row: l.offset,
+    let block = Block {
+        shape: interleaver_shape::shape_of(coding),
+        from,
     };
-    let mut pass: usize = 0;
-    while pass < l.step {
-        at = move_pass(l, pass, at, back, from, to);
-        pass += 1;
-    }
-    if at.nibble < l.rows + l.parity {
-        move_parity(l, at, back, from, to);
-    }
-}
-
-// Pairs of a pass, as long as the row is below `end`. Both nibbles of a pair are rotated alike, and its parity row stands `apart` after its
-// data row.
-fn move_run(
-    l: Shape,
-    start: Run,
-    end: usize,
-    apart: usize,
-    back: bool,
-    from: &[u8],
-    to: &mut [u8],
-) -> Run
-    requires { Moving l from.now to.old × PairRun l start end apart }
-    ensures stands { (start.nibble ≤ result.nibble) × (Runs l result) × (result.pass ≡ start.pass) × (end ≤ result.row) }
-    ensures moved { to.new ≡ carried l back from.now start.nibble result.nibble to.old }
-{
-    let pass = start.pass;
-    let mut nibble = start.nibble;
-    let mut row = start.row;
-    while row < end {
-        let rotation = (nibble / 2 % 4) as u32;
-        move_word(nibble, rotation, row * 4, back, from, to);
-        move_word(nibble + 1, rotation, (apart + row) * 4, back, from, to);
-        nibble += 2;
-        row += l.step;
-    }
-    Run { nibble, row, pass }
-}
-
-// All nibbles of a shape of pairs. The parity rows of a pass go past the end once, and then on from the first row.
-fn move_pairs(l: Shape, back: bool, from: &[u8], to: &mut [u8])
-    requires { Moving l from.now to.old × Near l × Paired l }
-    ensures { to.new ≡ carried l back from.now 0 (l.rows + l.parity) to.old }
-{
-    let bend = l.rows - l.offset;
-    let before = l.rows + l.offset;
-    let mut nibble: usize = 0;
-    let mut pass: usize = 0;
-    while pass < l.step {
-        let start = Run {
-            nibble,
-            row: pass,
-            pass,
-        };
-        let past = move_run(l, start, bend, before, back, from, to);
-        let last = move_run(l, past, l.rows, l.offset, back, from, to);
-        nibble = last.nibble;
-        pass += 1;
-    }
-}
-
-// All bits of a block, from rows to coded bits or back. Of pairs each direction is a call of its own, so that no nibble tests it.
-fn move_bits(kind: usize, rate: usize, back: bool, from: &[u8], to: &mut [u8])
-    requires { (Defined kind rate) × (length from.now ≡ coded_bits kind rate) × (coded_bits kind rate ≤ length to.old) }
-    ensures { to.new ≡ stored (coded_bits kind rate) (target back (row_place kind rate))
-        (λ i. get_or from.now (origin back (row_place kind rate) i) 0) to.old }
-{
-    let l = interleaver_shape::shape_of(kind, rate);
-    if l.continuous {
-        move_groups(l, back, from, to);
-    } else if back {
-        move_pairs(l, true, from, to);
+    if block.shape.continuous {
+        block.move_groups::<BACK>(to);
     } else {
-        move_pairs(l, false, from, to);
+        block.move_pairs::<BACK>(to);
     }
 }
 
 // The coded bits of a block's rows, at the start of `out`.
-pub fn interleave(kind: usize, rate: usize, rows: &[u8], out: &mut [u8])
-    requires { (Defined kind rate) × (length rows.now ≡ coded_bits kind rate) × (coded_bits kind rate ≤ length out.old) }
-    ensures { out.new ≡ written (coded_bits kind rate) (λ i. get_or rows.now (row_place kind rate i) 0) out.old }
+pub fn interleave(coding: Coding, rows: &[u8], out: &mut [u8])
+    requires { (length rows.now ≡ coded_bits coding.kind coding.rate) × (coded_bits coding.kind coding.rate ≤ length out.old) }
+    ensures { out.new ≡ written (coded_bits coding.kind coding.rate) (λ i. get_or rows.now (row_place coding.kind coding.rate i) 0) out.old }
 {
-    move_bits(kind, rate, false, rows, out);
+    move_bits::<false>(coding, rows, out);
 }
 
 // The rows of a block's coded bits, at the start of `rows`.
-pub fn deinterleave(kind: usize, rate: usize, coded: &[u8], rows: &mut [u8])
-    requires { (Defined kind rate) × (length coded.now ≡ coded_bits kind rate) × (coded_bits kind rate ≤ length rows.old) }
-    ensures { rows.new ≡ written (coded_bits kind rate) (λ j. get_or coded.now (coded_at kind rate (row_source kind rate j)) 0) rows.old }
+pub fn deinterleave(coding: Coding, coded: &[u8], rows: &mut [u8])
+    requires { (length coded.now ≡ coded_bits coding.kind coding.rate) × (coded_bits coding.kind coding.rate ≤ length rows.old) }
+    ensures { rows.new ≡ written (coded_bits coding.kind coding.rate) (λ j. get_or coded.now (coded_at coding.kind coding.rate (row_source coding.kind coding.rate j)) 0) rows.old }
 {
-    move_bits(kind, rate, true, coded, rows);
+    move_bits::<true>(coding, coded, rows);
 }

@@ -5,9 +5,11 @@
 #![tactic(auto)]
 
 ghost use Rattle.std.specs.Prelude.{◌≡◌, false, ◌*◌, ◌<◌};
-ghost use Rattle.card.specs.Modes.{block_bytes, Defined};
+ghost use Rattle.card.specs.Modes.{block_bytes};
 ghost use Rattle.interleaver_shape.specs.Shapes.{shape_of, coded_bits};
 ghost use Rattle.interleaver_shape.specs.Loops.Bounds.{Sound, Small, Near, Paired};
+
+use coding::Coding;
 
 // The shape of the interleaver at one kind and rate (000, Table 11).
 #[derive(Clone, Copy)]
@@ -25,17 +27,59 @@ pub struct Shape {
     pub continuous: bool,
 }
 
-// Table 11 of 000: kinds 0 to 4 at rate 1/2, then kind 4 at rate 16/18.
-const OFFSETS: [usize; 6] = [16, 72, 136, 264, 520, 60];
+// A row of Table 11 of 000.
+struct Walk {
+    offset: usize,
+    step: usize,
+}
 
-const STEPS: [usize; 6] = [4, 16, 16, 16, 16, 11];
+// Kinds 0 to 4 at rate 1/2, then kind 4 at rate 16/18.
+const WALKS: [Walk; 6] = [
+    Walk {
+        offset: 16,
+        step: 4,
+    },
+    Walk {
+        offset: 72,
+        step: 16,
+    },
+    Walk {
+        offset: 136,
+        step: 16,
+    },
+    Walk {
+        offset: 264,
+        step: 16,
+    },
+    Walk {
+        offset: 520,
+        step: 16,
+    },
+    Walk {
+        offset: 60,
+        step: 11,
+    },
+];
+
+// The data nibbles to a parity nibble, and how many of them come before it.
+struct Group {
+    nibbles: usize,
+    lead: usize,
+}
 
 // By rate: 1 + 1 nibbles, and 3 + 1 + 5.
-const GROUPS: [usize; 2] = [1, 8];
+const GROUPS: [Group; 2] = [
+    Group {
+        nibbles: 1,
+        lead: 1,
+    },
+    Group {
+        nibbles: 8,
+        lead: 3,
+    },
+];
 
-const LEADS: [usize; 2] = [1, 3];
-
-// The number of data rows: four bits make a row, so a byte makes two.
+// The number of data rows: four bits make a row, so a byte makes two. A kind is enough, with any rate.
 pub fn data_rows(kind: usize) -> usize
     requires { kind < 5 }
     ensures { result ≡ block_bytes kind * 2 }
@@ -44,37 +88,34 @@ pub fn data_rows(kind: usize) -> usize
 }
 
 // The shape of a kind and rate.
-pub fn shape_of(kind: usize, rate: usize) -> Shape
-    requires { Defined kind rate }
-    ensures { (result ≡ shape_of kind rate) × (Sound result) × (Small result) × (Near result) × (result.continuous ≡ false → Paired result) }
+pub fn shape_of(coding: Coding) -> Shape
+    ensures { (result ≡ shape_of coding.kind coding.rate) × (Sound result) × (Small result) × (Near result) × (result.continuous ≡ false → Paired result) }
 {
-    let rows = data_rows(kind);
-    let group = GROUPS[rate];
+    let rows = data_rows(coding.kind);
+    let walk = &WALKS[coding.kind + coding.rate];
+    let group = &GROUPS[coding.rate];
     Shape {
         rows,
-        parity: rows / group,
-        step: STEPS[kind + rate],
-        offset: OFFSETS[kind + rate],
-        group,
-        lead: LEADS[rate],
-        continuous: rate == 1,
+        parity: rows / group.nibbles,
+        step: walk.step,
+        offset: walk.offset,
+        group: group.nibbles,
+        lead: group.lead,
+        continuous: coding.rate == 1,
     }
 }
 
 // The number of coded bits.
-pub fn coded_bits(kind: usize, rate: usize) -> usize
-    requires { Defined kind rate }
-    ensures { result ≡ coded_bits kind rate }
+pub fn coded_bits(coding: Coding) -> usize
+    ensures { result ≡ coded_bits coding.kind coding.rate }
 {
-    let l = shape_of(kind, rate);
-    (l.rows + l.parity) * 4
+    let shape = shape_of(coding);
+    (shape.rows + shape.parity) * 4
 }
 
 // The number of parity rows.
-pub fn parity_rows(kind: usize, rate: usize) -> usize
-    requires { Defined kind rate }
-    ensures { result ≡ (shape_of kind rate).parity }
+pub fn parity_rows(coding: Coding) -> usize
+    ensures { result ≡ (shape_of coding.kind coding.rate).parity }
 {
-    let l = shape_of(kind, rate);
-    l.parity
+    shape_of(coding).parity
 }

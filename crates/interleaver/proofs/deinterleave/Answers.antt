@@ -13,12 +13,12 @@ use Rattle.interleaver.proofs.deinterleave.Goals as goal
 
 pub returns : goal.returns
 returns c =
-    let kind = c.args.kind in
-    let rate = c.args.rate in
+    let kind = c.args.coding.kind in
+    let rate = c.args.coding.rate in
     let coded = c.args.coded.now in
     let rows = c.args.rows.now in
     let n = coded_bits kind rate in
     c.move_bits.ensures
-    ∙ stored-permuted n (row_place kind rate) (λ i. get_or coded i 0) rows (row-permutes kind rate c.requires.0) c.requires.2
+    ∙ stored-permuted n (row_place kind rate) (λ i. get_or coded i 0) rows (row-permutes kind rate c.args.coding.defined) c.requires.1
     ∙ written-ext n (λ j. get_or coded (inverse n (row_place kind rate) j) 0) (λ j. get_or coded (coded_at kind rate (row_source kind rate j)) 0) rows
-    (λ j h. ap (λ (i : ℕ). get_or coded i 0) (row-inverse kind rate c.requires.0 j h))
+    (λ j h. ap (λ (i : ℕ). get_or coded i 0) (row-inverse kind rate c.args.coding.defined j h))

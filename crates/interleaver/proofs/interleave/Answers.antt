@@ -9,5 +9,5 @@ use Rattle.interleaver.proofs.interleave.Goals as goal
 pub returns : goal.returns
 returns c =
     c.move_bits.ensures
-    ∙ stored-written (coded_bits c.args.kind c.args.rate) (λ i. get_or c.args.rows.now (row_place c.args.kind c.args.rate i) 0)
-    c.args.out.now c.requires.2
+    ∙ stored-written (coded_bits c.args.coding.kind c.args.coding.rate) (λ i. get_or c.args.rows.now (row_place c.args.coding.kind c.args.coding.rate i) 0)
+    c.args.out.now c.requires.1

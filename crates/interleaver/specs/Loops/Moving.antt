@@ -1,12 +1,11 @@
 -- What moving nibbles from one buffer to another asks. Assumes nothing.
-use Rattle.std.specs.Prelude.{◌≡◌, true, List, ℕ, ◌+◌, ◌*◌, ◌<◌, ◌≤◌, length}
+use Rattle.std.specs.Prelude.{◌≡◌, List, ℕ, zero, ◌+◌, ◌*◌, ◌<◌, ◌≤◌, length}
 use Rattle.interleaver_shape.specs.declared.Shape.{Shape}
 use Rattle.interleaver.specs.declared.Stand.{Stand}
 use Rattle.interleaver.specs.declared.Run.{Run}
 use Rattle.interleaver.specs.Rows.{passes, moved_row}
-use Rattle.interleaver_shape.specs.Shapes.{coded_of}
 use Rattle.interleaver.specs.Source.{data_place}
-use Rattle.interleaver_shape.specs.Loops.Bounds.{Sound, Small, Near, Paired}
+use Rattle.interleaver_shape.specs.Loops.Bounds.{Paired}
 use Rattle.interleaver.specs.Loops.Walks.{OnPass, until_parity, Stands, Runs}
 
 -- Nibble n of the coded bits and the row from `first` on are within both buffers.
@@ -16,17 +15,12 @@ pub record Within (n first : ℕ) (from to : List ℕ) : Type 0 where
   pub row_from : first + 4 ≤ length from
   pub row-to : first + 4 ≤ length to
 
--- A shape whose coded bits are one buffer, and fit in the other.
-pub record Moving (L : Shape) (from to : List ℕ) : Type 0 where
-  pub sound : Sound L
-  pub small : Small L
-  pub whole : length from ≡ coded_of L
-  pub room : coded_of L ≤ length to
-
--- A shape whose parity rows are read on without a restart.
-pub record Continuous (L : Shape) : Type 0 where
-  pub near : Near L
-  pub on : L.continuous ≡ true
+-- A shape whose nibbles go in groups of one parity nibble each, and that has a first row.
+pub record Orderly (L : Shape) : Type 0 where
+  pub step-pos : zero < L.step
+  pub group-pos : zero < L.group
+  pub lead-le : L.lead ≤ L.group
+  pub rows_are : L.rows ≡ L.parity * L.group
 
 -- The joined stream stands before the first data nibble of a pass.
 pub record BeforePass (L : Shape) (pass : ℕ) (s : Stand) : Type 0 where

@@ -1,0 +1,82 @@
+-- `interleaver::Block::move_pairs` meets its contract. The invariant: the pairs of the passes before this one are carried. Assumes nothing.
+use mathlib.Core.Path.{◌≡◌, ap, ◌∙◌}
+use Prim.Native.Nat.{ℕ, ◌+◌, ◌*◌}
+use native.Mathlib.Omega.{arith}
+use lib.ListN.{length}
+use Rattle.interleaver.specs.Rows.{passes}
+use Rattle.interleaver.specs.Loops.Stores.{flag, carried}
+use Rattle.interleaver.proofs.WalkLaws.{moved-within, moved-past, passes-all, passes_none, on-start, pass-end}
+use Rattle.interleaver.proofs.PairLaws.{parity-is}
+use Rattle.interleaver.proofs.NibbleLaws.{carried_none, carried-join}
+use Rattle.interleaver.proofs.Block.move_pairs.Goals as goal
+
+pub overflow_sub-bend : goal.overflow_sub-bend
+overflow_sub-bend g c =
+    omega (arith, c.args.self.now.near.offset-lt, parity-is c.args.self.now.shape c.args.self.now.orderly c.requires.1)
+
+pub overflow_add-before : goal.overflow_add-before
+overflow_add-before g c = omega (arith, c.args.self.now.small)
+
+pub loop-pass-init : goal.loop-pass-init
+loop-pass-init g c =
+    let l = c.args.self.now.shape in (
+      ap (λ (k : ℕ). k * 2) (passes_none l.rows l.step c.args.self.now.orderly.step-pos),
+      carried_none l _ c.args.self.now.from.now 0 c.args.to.now,
+    )
+
+pub move_run-past-requires : goal.move_run-past-requires
+move_run-past-requires g c =
+    let l = c.args.self.now.shape in (
+      omega arith,
+      record {
+        paired = c.requires.1;
+        runs = record {
+          place = length (passes l.rows l.step c.loop-pass.pass);
+          nibble-is = c.loop-pass.invariant.0;
+          pass-lt = c.loop-pass-test.true;
+          on-pass = on-start l.rows l.step c.args.self.now.orderly.step-pos c.loop-pass.pass c.loop-pass.auto.pass-end (omega (arith, c.loop-pass-test.true));
+        };
+        end-le = omega arith;
+        apart-is = λ row h b. omega (arith, moved-within l.rows l.offset row (omega arith));
+      },
+    )
+
+pub move_run-last-requires : goal.move_run-last-requires
+move_run-last-requires g c =
+    let l = c.args.self.now.shape in
+    let past = c.move_run-past.ensures.stands.3 in
+    let near = c.args.self.now.near.offset-lt in
+    let same = parity-is l c.args.self.now.orderly c.requires.1 in (
+      omega arith,
+      record {
+        paired = c.requires.1;
+        runs = c.move_run-past.ensures.stands.1;
+        end-le = omega arith;
+        apart-is = λ row h b. omega (arith, moved-past l.rows l.offset row (omega arith) (omega arith));
+      },
+    )
+
+pub loop-pass-preserved : goal.loop-pass-preserved
+loop-pass-preserved g c =
+    let l = c.args.self.now.shape in
+    let from = c.args.self.now.from.now in
+    let (up, runs, same, end) = c.move_run-last.ensures.stands in
+    let pass : c.move_run-last.result.pass + 1 ≡ c.loop-pass.pass + 1 = ap (λ (k : ℕ). k + 1) (same ∙ c.move_run-past.ensures.stands.2) in
+    let place =
+    pass-end l.rows l.step c.args.self.now.orderly.step-pos runs.place c.move_run-last.result.pass c.move_run-last.result.row runs.on-pass runs.pass-lt end
+    ∙ ap (λ (k : ℕ). length (passes l.rows l.step k)) pass in (
+      runs.nibble-is ∙ ap (λ (k : ℕ). k * 2) place,
+      carried-join l _ from 0 c.move_run-past.result.nibble c.move_run-last.result.nibble c.args.to.now _ _ (omega arith) up
+          (carried-join l _ from 0 c.loop-pass.nibble c.move_run-past.result.nibble c.args.to.now _ _ (omega arith) c.move_run-past.ensures.stands.0 c.loop-pass.invariant.1
+          c.move_run-past.ensures.moved)
+          c.move_run-last.ensures.moved,
+    )
+
+pub returns : goal.returns
+returns g c =
+    let l = c.args.self.now.shape in
+    let e : c.loop-pass.pass ≡ l.step = omega (arith, c.loop-pass.auto.pass-end, c.loop-pass-test.false) in
+    let all = ap (λ (j : ℕ). length (passes l.rows l.step j)) e ∙ passes-all l.rows l.step c.args.self.now.orderly.step-pos in
+    c.loop-pass.invariant.1
+    ∙ ap (λ (k : ℕ). carried l (flag g.row.BACK) c.args.self.now.from.now 0 k c.args.to.now)
+    (c.loop-pass.invariant.0 ∙ ap (λ (k : ℕ). k * 2) all ∙ omega (arith, parity-is l c.args.self.now.orderly c.requires.1))
