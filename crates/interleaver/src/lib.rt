@@ -106,15 +106,13 @@ impl Block<'_> {
             × (until_parity self.now.shape result.nibble + result.nibble ≡ until_parity self.now.shape start.nibble + start.nibble) }
         ensures moved { to.new ≡ carried self.now.shape BACK self.now.from.now start.nibble result.nibble to.old }
     {
-        let pass = start.pass;
-        let mut nibble = start.nibble;
-        let mut row = start.row;
-        while row < end {
-            self.move_nibble::<BACK>(nibble, row * 4, to);
-            nibble += 1;
-            row += self.shape.step;
+        let mut at = start;
+        while at.row < end {
+            self.move_nibble::<BACK>(at.nibble, at.row * 4, to);
+            at.nibble += 1;
+            at.row += self.shape.step;
         }
-        Run { nibble, row, pass }
+        at
     }
 
     // The data nibbles of a pass, and the parity nibbles before each of them.
@@ -170,17 +168,15 @@ impl Block<'_> {
         ensures stands { (start.nibble ≤ result.nibble) × (Runs self.now.shape result) × (result.pass ≡ start.pass) × (end ≤ result.row) }
         ensures moved { to.new ≡ carried self.now.shape BACK self.now.from.now start.nibble result.nibble to.old }
     {
-        let pass = start.pass;
-        let mut nibble = start.nibble;
-        let mut row = start.row;
-        while row < end {
-            let rotation = (nibble / 2 % 4) as u32;
-            self.move_word::<BACK>(nibble, rotation, row * 4, to);
-            self.move_word::<BACK>(nibble + 1, rotation, (apart + row) * 4, to);
-            nibble += 2;
-            row += self.shape.step;
+        let mut at = start;
+        while at.row < end {
+            let rotation = (at.nibble / 2 % 4) as u32;
+            self.move_word::<BACK>(at.nibble, rotation, at.row * 4, to);
+            self.move_word::<BACK>(at.nibble + 1, rotation, (apart + at.row) * 4, to);
+            at.nibble += 2;
+            at.row += self.shape.step;
         }
-        Run { nibble, row, pass }
+        at
     }
 
     // All nibbles of a shape of pairs. The parity rows of a pass go past the end once, and then on from the first row.
