@@ -9,7 +9,7 @@ ghost use Rattle.refusal.specs.Report.{answer};
 ghost use Rattle.bands.specs.Bands.{band_count, first_sub_carrier, last_sub_carrier, symbols as symbols_of, symbol_offsets, carriers as carriers_of};
 ghost use Rattle.bands.specs.Units.{place_report, sub_carrier_report, place_of, sub_carrier_of};
 
-use refusal::{Answer, Refusal};
+use refusal::Refusal;
 
 // The number of a sub-carrier.
 #[derive(Clone, Copy)]
@@ -18,19 +18,6 @@ pub struct SubCarrier(pub usize);
 // A place in a band's usable list (paper 01's term): place 0 is the band's first sub-carrier.
 #[derive(Clone, Copy)]
 pub struct Place(pub usize);
-
-// What the two conversions answer.
-#[derive(Clone, Copy)]
-pub enum PlaceOf {
-    At(Place),
-    Refused(Refusal),
-}
-
-#[derive(Clone, Copy)]
-pub enum SubCarrierOf {
-    At(SubCarrier),
-    Refused(Refusal),
-}
 
 const BANDS: usize = 4;
 
@@ -64,54 +51,54 @@ pub fn carriers(band: usize) -> usize
 }
 
 // The place of a sub-carrier in a band.
-pub fn place_of(band: usize, s: SubCarrier) -> PlaceOf
+pub fn place_of(band: usize, s: SubCarrier) -> Result<Place, Refusal>
     ensures { place_report result ≡ place_of band s.0 }
 {
     let number = s.0;
     if BANDS <= band {
-        return PlaceOf::Refused(Refusal::Mode);
+        return Err(Refusal::Mode);
     }
     let first = first_of(band);
     if number < first {
-        return PlaceOf::Refused(Refusal::Length(number));
+        return Err(Refusal::Length(number));
     }
     if last_of(band) < number {
-        return PlaceOf::Refused(Refusal::Length(number));
+        return Err(Refusal::Length(number));
     }
-    PlaceOf::At(Place(number - first))
+    Ok(Place(number - first))
 }
 
 // The sub-carrier at a place of a band.
-pub fn sub_carrier_of(band: usize, p: Place) -> SubCarrierOf
+pub fn sub_carrier_of(band: usize, p: Place) -> Result<SubCarrier, Refusal>
     ensures { sub_carrier_report result ≡ sub_carrier_of band p.0 }
 {
     let number = p.0;
     if BANDS <= band {
-        return SubCarrierOf::Refused(Refusal::Mode);
+        return Err(Refusal::Mode);
     }
     if carriers(band) <= number {
-        return SubCarrierOf::Refused(Refusal::Length(number));
+        return Err(Refusal::Length(number));
     }
-    SubCarrierOf::At(SubCarrier(first_of(band) + number))
+    Ok(SubCarrier(first_of(band) + number))
 }
 
 // A place as an answer.
-pub fn place_answer(p: PlaceOf) -> Answer
+pub fn place_answer(p: Result<Place, Refusal>) -> Result<usize, Refusal>
     ensures { answer result ≡ place_report p }
 {
     match p {
-        PlaceOf::At(place) => Answer::Done(place.0),
-        PlaceOf::Refused(r) => Answer::Refused(r),
+        Ok(place) => Ok(place.0),
+        Err(r) => Err(r),
     }
 }
 
 // A sub-carrier as an answer.
-pub fn sub_carrier_answer(s: SubCarrierOf) -> Answer
+pub fn sub_carrier_answer(s: Result<SubCarrier, Refusal>) -> Result<usize, Refusal>
     ensures { answer result ≡ sub_carrier_report s }
 {
     match s {
-        SubCarrierOf::At(sub_carrier) => Answer::Done(sub_carrier.0),
-        SubCarrierOf::Refused(r) => Answer::Refused(r),
+        Ok(sub_carrier) => Ok(sub_carrier.0),
+        Err(r) => Err(r),
     }
 }
 

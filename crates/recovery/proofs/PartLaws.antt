@@ -89,8 +89,8 @@ module _ (kind rate : ℕ) (D : Defined kind rate) (e : ℕ → ℕ) (binary : B
 
   -- the block put at the start of the lent memory
   pub block-put : (out : List ℕ)
-      → take size block ++ drop (length (take size block)) out ≡ bytes_of (block_bytes kind) (data_bit kind rate e) ++ drop (block_bytes kind) out
-  block-put out = ap₂ (λ (l : List ℕ) (n : ℕ). l ++ drop n out) (first-bytes es eb) (first-length es eb)
+      → take size block ++ drop size out ≡ bytes_of (block_bytes kind) (data_bit kind rate e) ++ drop (block_bytes kind) out
+  block-put out = ap₂ (λ (l : List ℕ) (n : ℕ). l ++ drop n out) (first-bytes es eb) es
 
 -- parity that was computed again, against that of a list of as many bytes
 pub counted : (n m total : ℕ) (d : ℕ → ℕ) (again parity : List ℕ) → m ≡ n → 8 * n ≡ total → Binary (8 * n) d → Holds n d again

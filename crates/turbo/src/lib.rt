@@ -9,49 +9,25 @@ ghost use Rattle.bits.specs.Bits.{bit_of, byte_of};
 ghost use Rattle.bits.specs.Lists.{written};
 ghost use Rattle.card.specs.Modes.{block_bytes};
 ghost use Rattle.constituent.specs.Pairs.{pair_count, pair_at};
-ghost use Rattle.constituent.specs.Loops.Bytes.{four_from};
-ghost use Rattle.pair_interleaver.specs.Interleave.{interleaved};
-ghost use Rattle.pair_interleaver.specs.Loops.Gather.{twice};
 ghost use Rattle.turbo.specs.Puncture.{pattern, kept_count};
 ghost use Rattle.turbo.specs.Loops.Keeping.{Puncturing, kept_from, two_rows, punctured, Inputs};
 ghost use Rattle.turbo.specs.Parity.{kept_bit};
 
+use coding::Coding;
+
+// The turbo encoder of a block: its kind, its rate and the taps, of which the low eleven bits count. Every kind serves with every rate, so a
+// `Coding` would ask more.
+#[derive(Clone, Copy)]
+pub struct Encoder {
+    pub kind: usize,
+    pub rate: usize,
+    pub taps: u16,
+    pub ghost kind_in_range: { kind < 5 },
+    pub ghost rate_in_range: { rate < 2 },
+}
+
 // The puncturing pattern of each rate, as printed. Place 0 is the rightmost, the lowest bit.
 const KEPT: [u32; 2] = [0b1111111111111111, 0b1000000010000000];
-
-// The pairs of a block.
-fn pairs(kind: usize) -> usize
-    requires { kind < 5 }
-    ensures { result ≡ pair_count kind }
-{
-    4 * card::block_bytes(kind)
-}
-
-// The first place of the pattern that is kept, from a place on, or 16, where a one is set behind the last place.
-fn next_kept(rate: usize, from: usize) -> usize
-    requires { (rate < 2) × (from < 16) }
-    ensures { result ≡ kept_from rate from }
-{
-    let ended = KEPT[rate] | 65536;
-    from + u32::trailing_zeros(ended >> from) as usize
-}
-
-// Whether the parity bits of every time are kept.
-fn keeps_all(rate: usize) -> bool
-    requires { rate < 2 }
-    ensures { result ≡ eqb (pattern rate) 65535 }
-{
-    KEPT[rate] == 65535
-}
-
-// How many parity bits of a block are kept.
-pub fn kept_count(kind: usize, rate: usize) -> usize
-    requires { (kind < 5) × (rate < 2) }
-    ensures { result ≡ kept_count kind rate }
-{
-    let ones = u32::count_ones(KEPT[rate]) as usize;
-    pairs(kind) / 8 * ones
-}
 
 // Pair t of some bytes.
 fn pair_of(bytes: &[u8], t: usize) -> u8
@@ -74,71 +50,96 @@ fn two_rows(packed: &[u8], t: usize, a: usize, b: usize) -> u8
     )
 }
 
-// The kept of the parity bits in `packed`, eight to a byte, at the start of `out`, at a rate that keeps two times of every sixteen: two rows
-// of sixteen give a byte.
-fn keep(kind: usize, rate: usize, packed: &[u8], out: &mut [u8])
-    requires { Puncturing kind rate packed.now out.old }
-    ensures { out.new ≡ written (kept_count kind rate / 8) (byte_of (punctured kind rate (bit_of packed.now))) out.old }
-{
-    let a = next_kept(rate, 0);
-    let b = next_kept(rate, a + 1);
-    let n = kept_count(kind, rate) / 8;
-    let mut i: usize = 0;
-    while i < n {
-        out[i] = two_rows(packed, 32 * i, a, b);
-        i += 1;
+impl From<Coding> for Encoder {
+    ghost from_gives = { λ c e. (e.kind ≡ c.kind) × (e.rate ≡ c.rate) × (e.taps ≡ c.taps) };
+
+    fn from(coding: Coding) -> Self {
+        Encoder {
+            kind: coding.kind,
+            rate: coding.rate,
+            taps: coding.taps,
+        }
     }
 }
 
-// The kept parity bits of a block, eight to a byte, at the start of `out`. `second` holds the pairs that encoder 2 reads. A rate that keeps
-// all needs no puncturing.
-fn kept_parity(kind: usize, rate: usize, taps: u16, bytes: &[u8], second: &[u8], out: &mut [u8])
-    requires { (rate < 2) × Inputs kind bytes.now second.now × (kept_count kind rate / 8 ≤ length out.old) }
-    ensures { out.new ≡ written (kept_count kind rate / 8) (byte_of (kept_bit kind rate taps (bit_of bytes.now))) out.old }
-{
-    if keeps_all(rate) {
-        constituent::parity_bytes(kind, taps, bytes, second, out);
-        return;
+impl Encoder {
+    // How many parity bits of a block are kept.
+    pub fn kept_count(self) -> usize
+        ensures { result ≡ kept_count self.kind self.rate }
+    {
+        let pairs = 4 * card::block_bytes(self.kind);
+        let ones = u32::count_ones(KEPT[self.rate]) as usize;
+        pairs / 8 * ones
     }
-    let mut packed = [0u8; 520];
-    constituent::parity_bytes(kind, taps, bytes, second, &mut packed);
-    keep(kind, rate, &packed, out);
-}
 
-// The kept parity bits of a block, eight to a byte, at the start of `out`, with room for what is made on the way: the block's pairs twice,
-// and the bytes that encoder 2 reads.
-fn encode_in(
-    kind: usize,
-    rate: usize,
-    taps: u16,
-    bytes: &[u8],
-    list: &mut [u8],
-    second: &mut [u8],
-    out: &mut [u8],
-)
-    requires kind_bound { (kind < 5) × (rate < 2) × (length bytes.now ≡ block_bytes kind) × (kept_count kind rate / 8 ≤ length out.old) }
-    requires kind_in_bounds { (8 * block_bytes kind ≤ length list.old) × (block_bytes kind ≤ length second.old) }
-    ensures list_after { list.new ≡ written (8 * length bytes.now) (twice (4 * length bytes.now) (pair_at (bit_of bytes.now))) list.old }
-    ensures second_after { second.new ≡ written (block_bytes kind) (four_from (interleaved kind (pair_at (bit_of bytes.now)))) second.old }
-    ensures out_after { out.new ≡ written (kept_count kind rate / 8) (byte_of (kept_bit kind rate taps (bit_of bytes.now))) out.old }
-{
-    pair_interleaver::second_bytes(kind, bytes, list, second);
-    kept_parity(kind, rate, taps, bytes, second, out);
-}
+    // Whether the parity bits of every time are kept.
+    fn keeps_all(self) -> bool
+        ensures { result ≡ eqb (pattern self.rate) 65535 }
+    {
+        KEPT[self.rate] == 65535
+    }
 
-// The kept parity bits of a block, eight to a byte, at the start of `out`. Of the taps the low eleven bits count. Frame control's short
-// block takes no long arrays.
-pub fn encode(kind: usize, rate: usize, taps: u16, bytes: &[u8], out: &mut [u8])
-    requires { (kind < 5) × (rate < 2) × (length bytes.now ≡ block_bytes kind) × (kept_count kind rate / 8 ≤ length out.old) }
-    ensures { out.new ≡ written (kept_count kind rate / 8) (byte_of (kept_bit kind rate taps (bit_of bytes.now))) out.old }
-{
-    if kind == 0 {
-        let mut list = [0u8; 128];
-        let mut second = [0u8; 16];
-        encode_in(kind, rate, taps, bytes, &mut list, &mut second, out);
-    } else {
-        let mut list = [0u8; 4160];
-        let mut second = [0u8; 520];
-        encode_in(kind, rate, taps, bytes, &mut list, &mut second, out);
+    // The first place of the pattern that is kept, from a place on, or 16, where a one is set behind the last place.
+    fn next_kept(self, from: usize) -> usize
+        requires { from < 16 }
+        ensures { result ≡ kept_from self.rate from }
+    {
+        let ended = KEPT[self.rate] | 65536;
+        from + u32::trailing_zeros(ended >> from) as usize
+    }
+
+    // The kept of the parity bits in `packed`, eight to a byte, at the start of `out`, at a rate that keeps two times of every sixteen: two
+    // rows of sixteen give a byte.
+    fn keep(self, packed: &[u8], out: &mut [u8])
+        requires { Puncturing self.kind self.rate packed.now out.old }
+        ensures { out.new ≡ written (kept_count self.kind self.rate / 8) (byte_of (punctured self.kind self.rate (bit_of packed.now))) out.old }
+    {
+        let a = self.next_kept(0);
+        let b = self.next_kept(a + 1);
+        let n = self.kept_count() / 8;
+        for (i, byte) in out[..n].iter_mut().enumerate() {
+            *byte = two_rows(packed, 32 * i, a, b);
+        }
+    }
+
+    // The kept parity bits of a block, eight to a byte, at the start of `out`. `second` holds the pairs that encoder 2 reads. A rate that
+    // keeps all needs no puncturing.
+    fn kept_parity(self, bytes: &[u8], second: &[u8], out: &mut [u8])
+        requires { Inputs self.kind bytes.now second.now × (kept_count self.kind self.rate / 8 ≤ length out.old) }
+        ensures { out.new ≡ written (kept_count self.kind self.rate / 8) (byte_of (kept_bit self.kind self.rate self.taps (bit_of bytes.now))) out.old }
+    {
+        if self.keeps_all() {
+            constituent::parity_bytes(self.kind, self.taps, bytes, second, out);
+            return;
+        }
+        let mut packed = [0u8; 520];
+        constituent::parity_bytes(self.kind, self.taps, bytes, second, &mut packed);
+        self.keep(&packed, out);
+    }
+
+    // The kept parity bits of a block, eight to a byte, at the start of `out`, with room for what is made on the way: the block's pairs twice,
+    // and the bytes that encoder 2 reads.
+    fn encode_in<const PAIRS: usize, const BYTES: usize>(self, bytes: &[u8], out: &mut [u8])
+        requires whole { (length bytes.now ≡ block_bytes self.kind) × (kept_count self.kind self.rate / 8 ≤ length out.old) }
+        requires room { (8 * block_bytes self.kind ≤ PAIRS) × (block_bytes self.kind ≤ BYTES) }
+        requires small { (PAIRS < 65536) × (BYTES < 65536) }
+        ensures { out.new ≡ written (kept_count self.kind self.rate / 8) (byte_of (kept_bit self.kind self.rate self.taps (bit_of bytes.now))) out.old }
+    {
+        let mut pairs = [0u8; PAIRS];
+        let mut second = [0u8; BYTES];
+        pair_interleaver::second_bytes(self.kind, bytes, &mut pairs, &mut second);
+        self.kept_parity(bytes, &second, out);
+    }
+
+    // The kept parity bits of a block, eight to a byte, at the start of `out`. Frame control's short block takes no long arrays.
+    pub fn encode(self, bytes: &[u8], out: &mut [u8])
+        requires { (length bytes.now ≡ block_bytes self.kind) × (kept_count self.kind self.rate / 8 ≤ length out.old) }
+        ensures { out.new ≡ written (kept_count self.kind self.rate / 8) (byte_of (kept_bit self.kind self.rate self.taps (bit_of bytes.now))) out.old }
+    {
+        if self.kind == 0 {
+            self.encode_in::<128, 16>(bytes, out);
+        } else {
+            self.encode_in::<4160, 520>(bytes, out);
+        }
     }
 }

@@ -21,9 +21,9 @@ all-decided c = omega (arith, c.first_above-undecided.ensures)
 pub returns-then-undecided-decided : goal.returns-then-undecided-decided
 returns-then-undecided-decided c =
     let e = decided_at c.args.decided.now in
-    let first : c.first_above-undecided.result ≡ first_undecided c.args.kind c.args.rate e =
-    c.first_above-undecided.ensures ∙ first-is c.args.kind c.args.rate c.args.decided.now c.requires.1 in
-    let law = refused-majority c.args.kind c.args.rate c.args.taps e c.args.out.now (omega (arith, first, c.requires.1)) in
+    let first : c.first_above-undecided.result ≡ first_undecided c.args.coding.kind c.args.coding.rate e =
+    c.first_above-undecided.ensures ∙ first-is c.args.coding.kind c.args.coding.rate c.args.decided.now c.requires.0 in
+    let law = refused-majority c.args.coding.kind c.args.coding.rate c.args.coding.taps e c.args.out.now (omega (arith, first, c.requires.0)) in
     record {
       answer = ap (λ (n : ℕ). refused 7 n 0) first ∙ ap (λ (o : Outcome ℕ (List ℕ)). o.report) (sym law);
       bytes = ap (λ (o : Outcome ℕ (List ℕ)). o.out) (sym law);
@@ -32,20 +32,20 @@ returns-then-undecided-decided c =
 pub recover_by-requires : goal.recover_by-requires
 recover_by-requires c =
     record {
-      defined = (c.requires.0, c.requires.1, all-decided (goal.at.recover_by-requires c).Else-undecided-decided);
-      rate_in_bounds = (frame-coded c.args.kind c.args.rate c.requires.0 (omega arith), c.requires.2);
+      decided = (c.requires.0, all-decided (goal.at.recover_by-requires c).Else-undecided-decided);
+      rate_in_bounds = (frame-coded c.args.coding.kind c.args.coding.rate c.args.coding.defined c.in-0.is, omega arith, c.requires.1);
     }
 
-pub recover_by-requires-then-kind-lt3 : goal.recover_by-requires-then-kind-lt3
-recover_by-requires-then-kind-lt3 c =
+pub recover_by-requires-in-1 : goal.recover_by-requires-in-1
+recover_by-requires-in-1 c =
     record {
-      defined = (c.requires.0, c.requires.1, all-decided (goal.at.recover_by-requires-then-kind-lt3 c).Else-undecided-decided);
-      rate_in_bounds = (short-coded c.args.kind c.args.rate c.requires.0 (omega arith), c.requires.2);
+      decided = (c.requires.0, all-decided (goal.at.recover_by-requires-in-1 c).Else-undecided-decided);
+      rate_in_bounds = (short-coded c.args.coding.kind c.args.coding.rate c.args.coding.defined (omega arith), omega arith, c.requires.1);
     }
 
-pub recover_by-requires-2 : goal.recover_by-requires-2
-recover_by-requires-2 c =
+pub recover_by-requires-in_default : goal.recover_by-requires-in_default
+recover_by-requires-in_default c =
     record {
-      defined = (c.requires.0, c.requires.1, all-decided (goal.at.recover_by-requires-2 c).Else-undecided-decided);
-      rate_in_bounds = (coded-le c.args.kind c.args.rate c.requires.0, c.requires.2);
+      decided = (c.requires.0, all-decided (goal.at.recover_by-requires-in_default c).Else-undecided-decided);
+      rate_in_bounds = (coded-le c.args.coding.kind c.args.coding.rate c.args.coding.defined, omega arith, c.requires.1);
     }

@@ -28,7 +28,6 @@ pub record Inputs (kind : ℕ) (bytes second : List ℕ) : Type 0 where
 
 -- what keeping two times of every sixteen asks: all parity bits of a block, and room for the kept
 pub record Puncturing (kind rate : ℕ) (packed out : List ℕ) : Type 0 where
-  pub defined : kind < 5
   pub rate-is : rate ≡ 1
   pub whole : block_bytes kind ≤ length packed
   pub short : length packed < 65536
