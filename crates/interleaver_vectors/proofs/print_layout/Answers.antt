@@ -8,7 +8,3 @@ shuffle-requires g c = (c.requires, omega arith, omega (arith, coded-le c.args.k
 
 pub shuffle-requires-2 : goal.shuffle-requires-2
 shuffle-requires-2 g c = (c.requires, omega arith, omega (arith, coded-le c.args.kind c.args.rate c.requires))
-
-pub print_numbers-requires : goal.print_numbers-requires
-print_numbers-requires g c =
-    (omega (arith, coded-le c.args.kind c.args.rate c.requires), omega (arith, coded-le c.args.kind c.args.rate c.requires))
