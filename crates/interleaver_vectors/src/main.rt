@@ -2,9 +2,9 @@
 #![tactic(auto)]
 
 ghost use Rattle.std.specs.Prelude.{◌≡◌, ◌+◌, ◌*◌, ◌<◌, ◌≤◌, length};
-ghost use Rattle.card.specs.Modes.{Defined};
 ghost use Rattle.interleaver_shape.specs.Shapes.{coded_bits};
 
+use coding::Coding;
 use std::io;
 
 // Room for the coded bits of any block.
@@ -21,16 +21,16 @@ fn number(s: &mut [u8], first: usize, height: usize, unit: usize)
 }
 
 // Those bytes of all rows in coded order.
-fn shuffle(kind: usize, rate: usize, unit: usize, out: &mut [u8])
-    requires { (Defined kind rate) × (0 < unit) × (coded_bits kind rate ≤ length out.old) }
+fn shuffle(coding: Coding, unit: usize, out: &mut [u8])
+    requires { (0 < unit) × (coded_bits coding.kind coding.rate ≤ length out.old) }
 {
-    let n = interleaver_shape::coded_bits(kind, rate);
-    let data = interleaver_shape::data_rows(kind);
-    let parity = interleaver_shape::parity_rows(kind, rate);
+    let n = interleaver_shape::coded_bits(coding);
+    let data = interleaver_shape::data_rows(coding.kind);
+    let parity = interleaver_shape::parity_rows(coding);
     let mut rows = [0u8; ROOM];
     number(&mut rows, 0, data, unit);
     number(&mut rows, data * 4, parity, unit);
-    interleaver::interleave(kind, rate, &rows[..n], out);
+    interleaver::interleave(coding, &rows[..n], out);
 }
 
 // A line of the first n numbers, each of two bytes.
@@ -45,21 +45,29 @@ fn print_numbers(rt: &impl Print, n: usize, high: &[u8], low: &[u8]) -> io::Resu
 }
 
 // The two lines of a kind and rate.
-fn print_layout(rt: &impl Print, kind: usize, rate: usize) -> io::Result<()>
-    requires { Defined kind rate }
-{
-    println!(rt; "kind {kind} rate {rate}")?;
-    let n = interleaver_shape::coded_bits(kind, rate);
+fn print_layout(rt: &impl Print, coding: Coding) -> io::Result<()> {
+    println!(rt; "kind {} rate {}", coding.kind, coding.rate)?;
+    let n = interleaver_shape::coded_bits(coding);
     let mut high = [0u8; ROOM];
     let mut low = [0u8; ROOM];
-    shuffle(kind, rate, 256, &mut high);
-    shuffle(kind, rate, 1, &mut low);
+    shuffle(coding, 256, &mut high);
+    shuffle(coding, 1, &mut low);
     print_numbers(rt, n, &high, &low)
 }
 
 fn main(rt: HostRuntime) -> io::Result<()> {
     for kind in 0..5 {
-        print_layout(&rt, kind, 0)?;
+        let coding = Coding {
+            kind,
+            rate: 0,
+            taps: 0,
+        };
+        print_layout(&rt, coding)?;
     }
-    print_layout(&rt, 4, 1)
+    let coding = Coding {
+        kind: 4,
+        rate: 1,
+        taps: 0,
+    };
+    print_layout(&rt, coding)
 }
