@@ -37,11 +37,6 @@ loop-pass-init g c =
       moved = carried_none _ _ _ _ _;
     }
 
-pub move_pass-at-requires : goal.move_pass-at-requires
-move_pass-at-requires g c =
-    let i = c.loop-pass.invariant in
-    (omega arith, c.requires.1, record { stands = i.stands; pass-lt = c.loop-pass-test.true; place_is = i.place })
-
 pub loop-pass-preserved : goal.loop-pass-preserved
 loop-pass-preserved g c =
     let (up, stands, place) = c.move_pass-at.ensures.stands in
@@ -50,9 +45,6 @@ loop-pass-preserved g c =
       place = place;
       moved = carried-join _ _ _ 0 c.loop-pass.at.nibble c.move_pass-at.result.nibble _ _ _ c.loop-pass.invariant.moved c.move_pass-at.ensures.moved (omega arith) up;
     }
-
-pub move_parity-requires : goal.move_parity-requires
-move_parity-requires g c = (omega arith, c.requires.1, c.loop-pass.invariant.stands, c.if-at-self.true)
 
 pub returns-then-at-self : goal.returns-then-at-self
 returns-then-at-self g c =

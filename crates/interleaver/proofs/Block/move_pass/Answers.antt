@@ -75,9 +75,6 @@ move_data-last-requires g c =
 pub overflow_add-at : goal.overflow_add-at
 overflow_add-at g c = omega (arith, reach g (goal.at.overflow_add-at g c).After-move_parity-data, c.args.self.now.small)
 
-pub overflow_sub-at : goal.overflow_sub-at
-overflow_sub-at g c = omega (arith, c.move_data-last.ensures.stands.5, c.move_parity-data.ensures.stands.1.left_is)
-
 pub loop-row-smaller : goal.loop-row-smaller
 loop-row-smaller g c =
     let step = c.args.self.now.shape.step in
