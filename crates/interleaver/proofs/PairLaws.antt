@@ -53,4 +53,4 @@ module _ (L : Shape) (S : Orderly L) (P : Paired L) where
 
 -- both nibbles of a pair are rotated alike
 pub same-rotation : (n place : ℕ) → n ≡ place * 2 → n / 2 % 4 ≡ (n + 1) / 2 % 4
-same-rotation n place e = let h : n / 2 ≡ (n + 1) / 2 = omega arith in ap (λ (t : ℕ). t % 4) h
+same-rotation n place e = omega arith

@@ -6,7 +6,8 @@ use native.Mathlib.Nat.{mod-lt, div-add-mod', mul-add, div-lt_iff_lt-mul}
 use native.Mathlib.Omega.{arith}
 use lib.Dec.{ltb}
 use lib.Arith.{digits_div, digits_mod, digits_lt}
-use borrow.Author.Tests.{lt-ltb, le-ltb, eqb-true, eqb-false}
+use borrow.Author.Tests.{eqb-true, eqb-false}
+use Rattle.std.proofs.lemmas.Bool.Decides.{nat_tests}
 use Rattle.bits.specs.Permutations.{Permutes}
 use Rattle.bits.proofs.NumberLaws.{lt-cases}
 use Rattle.interleaver_shape.specs.declared.Shape.{Shape}
@@ -28,13 +29,9 @@ skipped : (group lead e : ℕ) → lead ≤ group → e < group + 1 → (e ≡ l
 skipped group lead e hl he ne =
     lt-cases lead e
     (λ h.
-    let s : skip lead e ≡ e - 1 = rw (lt-ltb lead e h) in
-    let u : unskip lead (e - 1) ≡ suc (e - 1) = rw (le-ltb (e - 1) lead (omega arith)) in
-    (omega arith, ap (unskip lead) s ∙ u ∙ omega arith))
+    (grind (arith, nat_tests), grind (arith, nat_tests)))
     (λ h.
-    let s : skip lead e ≡ e = rw (le-ltb lead e h) in
-    let u : unskip lead e ≡ e = rw (lt-ltb e lead (omega arith)) in
-    (omega arith, ap (unskip lead) s ∙ u))
+    (grind (arith, nat_tests), grind (arith, nat_tests)))
 
 order-permutes : (T step offset : ℕ) (b : Bool) → zero < step → (b ≡ true → (inverse : ℕ) × (rounds : ℕ) × (step * inverse ≡ 1 + rounds * T))
     → Permutes T (λ p. cond b (continuous_row T step offset p) (moved_row T offset (pass_row T step p)))

@@ -3,11 +3,12 @@
 use mathlib.Core.Path.{◌≡◌, refl, ap, ◌∙◌}
 use mathlib.Core.Bool.{true, false, cond}
 use Prim.Native.Nat.{ℕ, zero, ◌+◌, ◌-◌, ◌*◌, ◌/◌, ◌%◌, ◌<◌, ◌≤◌}
-use native.Mathlib.Nat.{div-add-mod', add-mul, mul-add, mul-le-mul_right, zero-div, zero-mod, zero-mul}
+use native.Mathlib.Nat.{div-add-mod', add-mul, mul-add, mul-le-mul_right, zero-div, zero-mod}
 use native.Mathlib.Omega.{arith}
 use lib.Dec.{ltb}
 use lib.Arith.{digits_div, digits_mod}
-use borrow.Author.Tests.{lt-ltb, le-ltb, eqb-true, eqb-false, eq-eqb, ne_eqb}
+use borrow.Author.Tests.{lt-ltb, le-ltb, eqb-true, eqb-false}
+use Rattle.std.proofs.lemmas.Bool.Decides.{nat_tests}
 use Rattle.bits.proofs.BoolLaws.{test-cases}
 use Rattle.bits.proofs.NumberLaws.{lt-cases}
 use Rattle.interleaver_shape.specs.declared.Shape.{Shape}
@@ -98,27 +99,20 @@ module _ (L : Shape) (S : Orderly L) where
 
   -- a parity nibble is due where none of data comes first, and its row is that of its group
   pub parity-due : (n : ℕ) → until_parity L n ≡ zero → is_parity L n ≡ true
-  parity-due n z =
-      let e = place_in L n in
-      eq-eqb e L.lead
-      (lt-cases L.lead e
-      (λ l. let (d, p, u) = past n (group_of L n) e refl refl l in absurd (omega (arith, place-lt L S n)))
-      (λ l. let (d, p, u) = before n (group_of L n) e refl refl l in omega arith))
+  unfolding until_parity
+  parity-due n z = grind (arith, nat_tests, place-lt L S n)
 
   pub until-le : (n : ℕ) → until_parity L n ≤ L.group
-  until-le n =
-      lt-cases L.lead (place_in L n)
-      (λ l. let (d, p, u) = past n (group_of L n) (place_in L n) refl refl l in omega arith)
-      (λ l. let (d, p, u) = before n (group_of L n) (place_in L n) refl refl l in omega (arith, S.lead-le))
+  unfolding until_parity
+  until-le n = grind (arith, nat_tests, S.lead-le)
 
   pub data-due : (n : ℕ) → zero < until_parity L n → is_parity L n ≡ false
-  data-due n z =
-      ne_eqb (place_in L n) L.lead (λ e. let (d, p, u) = before n (group_of L n) (place_in L n) refl refl (omega arith) in omega arith)
+  unfolding until_parity
+  data-due n z = grind (arith, nat_tests)
 
   pub parity-group : (n : ℕ) → is_parity L n ≡ true → parity_place L n ≡ group_of L n
-  parity-group n t =
-      let e = eqb-true (place_in L n) L.lead t in
-      (before n (group_of L n) (place_in L n) refl refl (omega arith)).1
+  unfolding parity_place
+  parity-group n t = grind (arith, nat_tests)
 
   -- the nibble after n, if n holds parity
   pub parity-passed : (n m : ℕ) → m ≡ n + cond (is_parity L n) 1 0 → data_place L m ≡ data_place L n
@@ -130,7 +124,7 @@ module _ (L : Shape) (S : Orderly L) where
   pub counts_start : Counts L 0 0 0 L.lead
   counts_start =
       let (d, p, u) = before 0 0 0 (zero-div (L.group + 1)) (zero-mod (L.group + 1)) (omega arith) in
-      (omega (arith, zero-mul L.group), p, omega arith)
+      (omega arith, p, omega arith)
 
   -- where data nibbles are left the stream goes on; where none are, it ends after one parity nibble at most
   data-parts : (n : ℕ) → group_of L n * L.group ≤ data_place L n
