@@ -125,13 +125,7 @@ module _ (R s : ℕ) (pos : zero < s) where
 
   -- past the longer passes there are rows only where the others have some
   short-pos : (p : ℕ) → p < R → R % s * (R / s + 1) ≤ p → zero < R / s
-  short-pos p h l =
-      lt-cases zero (R / s) (λ z. z) (λ z.
-      absurd
-      (let e : R / s ≡ zero = omega arith in
-      let w = rw e at whole in
-      let n = rw e at l in
-      omega (arith, mul-add (R % s) zero 1)))
+  short-pos p h l = grind (arith, whole)
 
   -- the pass of a place, and how far in it stands
   pub find : (p : ℕ) → p < R → Found R s p

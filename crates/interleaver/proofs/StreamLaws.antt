@@ -3,13 +3,12 @@
 use mathlib.Core.Path.{◌≡◌, ap, ◌∙◌}
 use mathlib.Core.Bool.{true, false, cond}
 use Prim.Native.Nat.{ℕ, zero, ◌+◌, ◌-◌, ◌*◌, ◌/◌, ◌%◌, ◌<◌, ◌≤◌}
-use native.Mathlib.Nat.{div-add-mod', add-mul, mul-add, mul-le-mul_right, zero-div, zero-mod}
+use native.Mathlib.Nat.{div-add-mod', add-mul, zero-div, zero-mod}
 use native.Mathlib.Omega.{arith}
 use lib.Arith.{digits_div, digits_mod}
 use borrow.Author.Tests.{eqb-true}
 use Rattle.std.proofs.lemmas.Bool.Decides.{nat_tests}
 use Rattle.bits.proofs.BoolLaws.{test-cases}
-use Rattle.bits.proofs.NumberLaws.{lt-cases}
 use Rattle.interleaver_shape.specs.declared.Shape.{Shape}
 use Rattle.interleaver.specs.Loops.Moving.{Orderly}
 use Rattle.interleaver.specs.Source.{group_of, place_in, is_parity, data_place}
@@ -91,45 +90,12 @@ module _ (L : Shape) (S : Orderly L) where
   data-parts n = omega arith
 
   pub stream-on : (n : ℕ) → data_place L n < L.rows → n < L.rows + L.parity
-  stream-on n h =
-      let g : group_of L n < L.parity = lt-cases (group_of L n) L.parity (λ l. l)
-      (λ l. absurd (omega (arith, data-parts n, S.rows_are, mul-le-mul_right {m = L.parity} {n = group_of L n} L.group l))) in
-      omega (
-        arith,
-        parts n,
-        place-lt L S n,
-        S.rows_are,
-        mul-add L.parity L.group 1,
-        add-mul (group_of L n) 1 (L.group + 1),
-        mul-le-mul_right {m = group_of L n + 1} {n = L.parity} (L.group + 1) (omega arith),
-      )
+  stream-on n h = grind (arith, parts n, place-lt L S n, S.rows_are)
 
   pub stream_end : (n : ℕ) → n < L.rows + L.parity → data_place L n ≡ L.rows → (is_parity L n ≡ true) × (n + 1 ≡ L.rows + L.parity)
   stream_end n h d =
       let t : is_parity L n ≡ true = test-cases (is_parity L n) (λ t. t) (λ t. absurd (omega (arith, data-place-lt L S n h t))) in
       let e = eqb-true (place_in L n) L.lead t in
       let d' : data_place L n ≡ group_of L n * L.group + place_in L n = grind (arith, nat_tests) in
-      let g : group_of L n + 1 ≡ L.parity = lt-cases (group_of L n + 1) L.parity
-      (λ l.
-      absurd
-      (omega (
-        arith,
-        S.rows_are,
-        S.lead-le,
-        S.group-pos,
-        add-mul (group_of L n) 2 L.group,
-        mul-le-mul_right {m = group_of L n + 2} {n = L.parity} L.group (omega arith),
-      )))
-      (λ l. omega (arith, group-lt L S n h)) in (
-        t,
-        omega (
-          arith,
-          parts n,
-          S.rows_are,
-          mul-add L.parity L.group 1,
-          ap (λ (x : ℕ). x * (L.group + 1)) g,
-          add-mul (group_of L n) 1 (L.group + 1),
-          ap (λ (x : ℕ). x * L.group) g,
-          add-mul (group_of L n) 1 L.group,
-        ),
-      )
+      let g : group_of L n + 1 ≡ L.parity = grind (arith, S.rows_are, S.lead-le, S.group-pos, group-lt L S n h) in
+      (t, grind (arith, parts n, S.rows_are))
