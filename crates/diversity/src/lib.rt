@@ -10,12 +10,36 @@ ghost use Rattle.diversity.specs.Loops.Cycle.{cycle_bit};
 
 use bands::Place;
 
-// The items of symbols of so many carriers, one symbol for each offset.
-pub fn item_count(carriers: usize, offsets: &[u8]) -> usize
-    requires { (carriers ≤ 512) × (length offsets.now < 32) }
-    ensures { result ≡ item_count carriers offsets.now }
-{
-    2 * (offsets.len() * carriers)
+// A frame control's symbols: the carriers of each, and for each its offset.
+#[derive(Clone, Copy)]
+pub struct Symbols<'a> {
+    pub carriers: usize,
+    pub offsets: &'a [u8],
+    pub ghost narrow: { carriers ≤ 512 },
+    pub ghost few: { length offsets.now < 32 },
+}
+
+impl<'a> Symbols<'a> {
+    // The items on all carriers.
+    pub fn item_count(&self) -> usize
+        ensures { result ≡ item_count self.now.carriers self.now.offsets.now }
+    {
+        2 * (self.offsets.len() * self.carriers)
+    }
+
+    // A copy of a coded bit on each lane, symbol by symbol.
+    pub fn copy_items(&self, coded: &[u8], out: &mut [u8])
+        requires { (length coded.now ≡ 256) × (item_count self.now.carriers self.now.offsets.now ≤ length out.old) }
+        ensures { out.new ≡ written (item_count self.now.carriers self.now.offsets.now) (λ n. slice_index coded.now (lane_bit self.now.carriers self.now.offsets.now n)) out.old }
+    {
+        let mut cycle = [0u8; 512];
+        fill_cycle(coded, &mut cycle);
+        let mut n = 0;
+        for offset in self.offsets {
+            copy_symbol(self.carriers, *offset, &cycle, &mut out[n..]);
+            n += 2 * self.carriers;
+        }
+    }
 }
 
 // The bit on lane I: the place as a byte plus the symbol's offset, wrapping on purpose.
@@ -53,13 +77,11 @@ fn half_cycle(place: usize, coded: &[u8], cycle: &mut [u8])
     requires { (place % 128 ≡ 0) × (length coded.now ≡ 256) × (256 ≤ length cycle.old) }
     ensures { cycle.new ≡ written 256 (λ n. slice_index coded.now (cycle_bit (2 * place + n))) cycle.old }
 {
-    let i = lane_i(Place(place), 0) as usize;
-    let q = lane_q(Place(place), 0) as usize;
-    let mut c: usize = 0;
-    while c < 128 {
+    let i = usize::from(lane_i(Place(place), 0));
+    let q = usize::from(lane_q(Place(place), 0));
+    for c in 0..128 {
         cycle[2 * c] = coded[i + c];
         cycle[2 * c + 1] = coded[q + c];
-        c += 1;
     }
 }
 
@@ -70,13 +92,6 @@ fn fill_cycle(coded: &[u8], cycle: &mut [u8])
 {
     half_cycle(0, coded, cycle);
     half_cycle(128, coded, &mut cycle[256..]);
-}
-
-// Room for a cycle.
-fn no_cycle() -> [u8; 512]
-    ensures { result ≡ replicate 512 0 }
-{
-    [0u8; 512]
 }
 
 // The items of one symbol, run by run.
@@ -93,21 +108,5 @@ fn copy_symbol(carriers: usize, offset: u8, cycle: &[u8], out: &mut [u8])
         let n = 2 * c;
         bits::put(&cycle[at..end], &mut out[n..]);
         c += run;
-    }
-}
-
-// A copy of a coded bit on each lane, symbol by symbol.
-pub fn copy_items(carriers: usize, offsets: &[u8], coded: &[u8], out: &mut [u8])
-    requires { (length coded.now ≡ 256) × (carriers ≤ 512) × (item_count carriers offsets.now ≤ length out.old) }
-    ensures { out.new ≡ written (item_count carriers offsets.now) (λ n. slice_index coded.now (lane_bit carriers offsets.now n)) out.old }
-{
-    let mut cycle = no_cycle();
-    fill_cycle(coded, &mut cycle);
-    let mut n: usize = 0;
-    let mut s: usize = 0;
-    while s < offsets.len() {
-        copy_symbol(carriers, offsets[s], &cycle, &mut out[n..]);
-        n += 2 * carriers;
-        s += 1;
     }
 }
