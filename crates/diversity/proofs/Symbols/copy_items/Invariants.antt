@@ -4,7 +4,7 @@ use Rattle.bits.specs.Lists.{written}
 use Rattle.diversity.specs.Lanes.{lane_bit}
 use Rattle.diversity.proofs.Symbols.copy_items.Given as goal
 
-abbrev pub invariant-loop-offset : goal.invariant-loop-offset
-invariant-loop-offset l =
-    (l.n ≡ 2 * (l.offset-index * l.self.carriers)) × (length l.out ≡ length l.initial.out)
-    × (l.out ≡ written l.n (λ k. get_or l.coded (lane_bit l.self.carriers l.self.offsets.now k) 0) l.initial.out)
+abbrev pub invariant-loop-run : goal.invariant-loop-run
+invariant-loop-run l =
+    (l.run-iterator.symbols ≡ l.self) × (length l.out ≡ length l.initial.out)
+    × (l.out ≡ written (2 * l.run-iterator.carrier) (λ k. get_or l.coded (lane_bit l.self.carriers l.self.offsets.now k) 0) l.initial.out)
