@@ -72,7 +72,7 @@ pub run_lane : (o c bit j m : ℕ) → bit ≡ (c + o) % 256 → bit + m ≤ 256
 run_lane o c bit j m e h l = omega arith
 
 -- the items of symbol s, from n on, go by the lanes of the cycle from twice its offset on, round it
-pub cycle-at : (C : ℕ) (os : List ℕ) (s n j : ℕ) → n ≡ 2 * (s * C) → j < 2 * C → cycle_lane C os (n + j) ≡ (2 * get_or os s 0 + j) % 512
+cycle-at : (C : ℕ) (os : List ℕ) (s n j : ℕ) → n ≡ 2 * (s * C) → j < 2 * C → cycle_lane C os (n + j) ≡ (2 * get_or os s 0 + j) % 512
 unfolding cycle_lane
 cycle-at C os s n j e h =
     let half : (2 * (s * C) + j) / 2 ≡ s * C + j / 2 = omega arith in
