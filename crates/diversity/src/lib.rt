@@ -6,10 +6,11 @@
 ghost use Rattle.std.specs.Prelude.{◌≡◌, ◌+◌, ◌-◌, ◌*◌, ◌%◌, ◌<◌, ◌≤◌, length, slice_index, MatchOption};
 ghost use Rattle.std.specs.Iterator.{at_most};
 ghost use Rattle.bits.specs.Lists.{tabulate, written};
+ghost use Rattle.bands.specs.Bands.{carriers, offsets};
 ghost use Rattle.diversity.specs.Lanes.{lane_bit, carrier_count, item_count};
 ghost use Rattle.diversity.specs.Loops.Cycle.{cycle_bit, IsRun};
 
-use bands::Place;
+use bands::{Band, Place};
 
 // A frame control's symbols: the carriers of each, and for each its offset.
 #[derive(Clone, Copy)]
@@ -21,6 +22,16 @@ pub struct Symbols<'a> {
 }
 
 impl<'a> Symbols<'a> {
+    // Those of a band.
+    pub fn on(band: Band) -> Symbols<'static>
+        ensures { (result.carriers ≡ carriers band.number) × (result.offsets.now ≡ offsets band.number) }
+    {
+        Symbols {
+            carriers: band.carriers(),
+            offsets: band.offsets(),
+        }
+    }
+
     // The items on all carriers.
     pub fn item_count(&self) -> usize
         ensures { result ≡ item_count self.now.carriers self.now.offsets.now }
