@@ -17,7 +17,7 @@ use diversity::Symbols;
 use votes::MIDDLE;
 
 // Where the sum of two counters starts. There is one for each lane of the cycle, and a bit has two.
-const TWO_MIDDLES: u8 = 128;
+const TWO_MIDDLES: u8 = 2 * MIDDLE;
 
 // A counter for each lane of the cycle, after the votes of all items, run by run.
 fn counters_of(symbols: &Symbols, items: &[u8]) -> [u8; 512]
@@ -57,7 +57,8 @@ fn decide_bit(own: u16, far: u16) -> u8
     votes::majority(TWO_MIDDLES, sum as u8)
 }
 
-// Half of the bits, from one on such that neither lane wraps within it.
+// Half of the bits, from one on such that neither lane wraps within it. `diversity::half_cycle` starts alike, but the bodies differ, and one
+// function that takes them as closures would be longer than both.
 fn decide_half(first: usize, both: &[u16; 256], bits: &mut [u8])
     requires { (first % 128 ≡ 0) × (first < 256) × (128 ≤ length bits.old) }
     ensures { bits.new ≡ written 128 (λ b. majority_of (2 * middle) (pair_sum both.now (first + b))) bits.old }

@@ -87,7 +87,7 @@ pub struct Run {
 }
 
 // The runs of the items from a carrier on, over all symbols: each goes up to where lane I's bit wraps, or up to the end of its symbol.
-#[derive(Clone, Copy)]
+#[derive(Drop)]
 pub struct Runs<'a> {
     pub symbols: Symbols<'a>,
     pub carrier: usize,
