@@ -5,11 +5,10 @@
 #![tactic(auto)]
 
 ghost use Rattle.std.specs.Prelude.{◌≡◌, ◌<◌, ◌≤◌, MatchOption};
-ghost use Rattle.refusal.specs.Report.{answer};
 ghost use Rattle.bands.specs.Bands.{band_count, first_sub_carrier, last_sub_carrier, symbols as symbols_of, offsets as offsets_of, carriers as carriers_of};
 ghost use Rattle.bands.specs.Units.{place_report, sub_carrier_report, place_of, sub_carrier_of};
 
-use refusal::{Answer, Refusal};
+use refusal::Refusal;
 
 // The number of a sub-carrier.
 #[derive(Clone, Copy)]
@@ -18,19 +17,6 @@ pub struct SubCarrier(pub usize);
 // A place in a band's usable list (paper 01's term): place 0 is the band's first sub-carrier.
 #[derive(Clone, Copy)]
 pub struct Place(pub usize);
-
-// What the two conversions answer.
-#[derive(Clone, Copy)]
-pub enum PlaceOf {
-    At(Place),
-    Refused(Refusal),
-}
-
-#[derive(Clone, Copy)]
-pub enum SubCarrierOf {
-    At(SubCarrier),
-    Refused(Refusal),
-}
 
 // A defined band, by its number.
 #[derive(Clone, Copy)]
@@ -122,53 +108,33 @@ impl Band {
 }
 
 // The place of a sub-carrier in a band.
-pub fn place_of(band: usize, s: SubCarrier) -> PlaceOf
+pub fn place_of(band: usize, s: SubCarrier) -> Result<Place, Refusal>
     ensures { place_report result ≡ place_of band s.0 }
 {
     let Some(band) = Band::new(band) else {
-        return PlaceOf::Refused(Refusal::Mode);
+        return Err(Refusal::Mode);
     };
     let number = s.0;
     let first = band.first();
     if number < first {
-        return PlaceOf::Refused(Refusal::Length(number));
+        return Err(Refusal::Length(number));
     }
     if band.last() < number {
-        return PlaceOf::Refused(Refusal::Length(number));
+        return Err(Refusal::Length(number));
     }
-    PlaceOf::At(Place(number - first))
+    Ok(Place(number - first))
 }
 
 // The sub-carrier at a place of a band.
-pub fn sub_carrier_of(band: usize, p: Place) -> SubCarrierOf
+pub fn sub_carrier_of(band: usize, p: Place) -> Result<SubCarrier, Refusal>
     ensures { sub_carrier_report result ≡ sub_carrier_of band p.0 }
 {
     let Some(band) = Band::new(band) else {
-        return SubCarrierOf::Refused(Refusal::Mode);
+        return Err(Refusal::Mode);
     };
     let number = p.0;
     if band.carriers() <= number {
-        return SubCarrierOf::Refused(Refusal::Length(number));
+        return Err(Refusal::Length(number));
     }
-    SubCarrierOf::At(SubCarrier(band.first() + number))
-}
-
-// A place as an answer.
-pub fn place_answer(p: PlaceOf) -> Answer
-    ensures { answer result ≡ place_report p }
-{
-    match p {
-        PlaceOf::At(place) => Answer::Done(place.0),
-        PlaceOf::Refused(r) => Answer::Refused(r),
-    }
-}
-
-// A sub-carrier as an answer.
-pub fn sub_carrier_answer(s: SubCarrierOf) -> Answer
-    ensures { answer result ≡ sub_carrier_report s }
-{
-    match s {
-        SubCarrierOf::At(sub_carrier) => Answer::Done(sub_carrier.0),
-        SubCarrierOf::Refused(r) => Answer::Refused(r),
-    }
+    Ok(SubCarrier(band.first() + number))
 }

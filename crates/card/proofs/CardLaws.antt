@@ -7,7 +7,7 @@ use native.Mathlib.Omega.{arith}
 use lib.Dec.{eqb}
 use lib.ListN.{length, get_or}
 use lib.Pow.{shr-shr}
-use borrow.Author.Tests.{eqb-true, eq-eqb, ne_eqb}
+use borrow.Author.Tests.{eqb-true}
 use Rattle.bits.specs.Bits.{field}
 use Rattle.bits.proofs.BitLaws.{field-none, field-in-byte, field-within}
 use Rattle.bits.proofs.RangeLaws.{agree}
@@ -29,15 +29,6 @@ counts = 1 ∷ 2 ∷ 4 ∷ 5 ∷ 7 ∷ 11 ∷ 0 ∷ 0 ∷ []
 
 pub count_of : (code : ℕ) → code < 8 → get_or counts code 0 ≡ copy_count code
 count_of = agree 8 (λ code. get_or counts code 0) copy_count tt
-
--- a count that stands at a code, and one that does not
-pub count-here : (copies code : ℕ) (table : List ℕ) → table ≡ counts → code < 6 → get_or table code 0 ≡ copies → eqb copies (copy_count code) ≡ true
-count-here copies code table is h e =
-    eq-eqb copies (copy_count code) (sym e ∙ ap (λ (l : List ℕ). get_or l code 0) is ∙ count_of code (omega arith))
-
-pub count-elsewhere : (copies code : ℕ) (table : List ℕ) → table ≡ counts → code < 6 → (get_or table code 0 ≡ copies → ⊥) → eqb copies (copy_count code) ≡ false
-count-elsewhere copies code table is h other =
-    ne_eqb copies (copy_count code) (λ e. other (ap (λ (l : List ℕ). get_or l code 0) is ∙ count_of code (omega arith) ∙ sym e))
 
 left : (b : Bool) → (b || false) ≡ true → b ≡ true
 left true e = refl

@@ -1,11 +1,9 @@
 -- What reading a card answers, for all inputs, by the rows of the table. Assumes nothing.
 use Rattle.std.specs.Prelude.{Bool, not, ◌&&◌, ◌||◌, List, [], ◌∷◌, ◌++◌, ℕ, eqb, ltb, length, drop}
 use Rattle.refusal.specs.declared.Refusal.TheVariants.{CardLength, Version, VersionLength, Mode, Room}
-use Rattle.refusal.specs.Report.{Report, done, refusal}
+use Rattle.refusal.specs.Report.{Report}
 use Rattle.refusal.specs.Outcome.{Row, row, Outcome, reported, outcome}
 use Rattle.card.specs.declared.Card.{Card}
-use Rattle.card.specs.declared.CardRead.{CardRead}
-use Rattle.card.specs.declared.CardRead.TheVariants.{Good, Refused}
 use Rattle.card.specs.Modes.{defined}
 use Rattle.card.specs.Card.{card_bytes, card_of, padding_of, fields_of}
 
@@ -29,11 +27,6 @@ card_rows bytes =
     ∷ row (not (eqb (length bytes) (card_bytes (card_of bytes).version))) VersionLength
     ∷ row (not (defined (card_of bytes))) Mode
     ∷ []
-
--- number and values of each case of what reading answers
-abbrev pub card_read : CardRead → Report Card
-card_read (Good c) = done c
-card_read (Refused r) = refusal r
 
 -- reading a card
 unfoldable pub read_card : List ℕ → Report Card

@@ -10,13 +10,13 @@
 
 ghost use Rattle.std.specs.Prelude.{◌≡◌, ◌++◌, true, ◌&&◌, ◌||◌, not, ◌<◌, ◌≤◌, eqb, length, drop};
 ghost use Rattle.refusal.specs.Report.{answer};
-ghost use Rattle.card.specs.Modes.{block_bytes, carrier_bits, defined_mode, defined_counts, defined};
+ghost use Rattle.card.specs.Modes.{block_bytes, carrier_bits, defined_mode, single, defined_counts, defined};
 ghost use Rattle.card.specs.Card.{card_bytes, copy_count, copy_code, card_of, padding_of, fields_of};
-ghost use Rattle.card.specs.Entries.{is_version, card_read, read_card, read_fields};
+ghost use Rattle.card.specs.Entries.{is_version, versioned, read_card, read_fields};
 ghost use Rattle.card.specs.Gate.{gate};
 ghost use Rattle.card.specs.Loops.Heads.{head_of};
 
-use refusal::{Answer, Refusal};
+use refusal::Refusal;
 
 // By kind: the bytes of a block.
 const BLOCK_BYTES: [usize; 5] = [16, 72, 136, 264, 520];
@@ -40,13 +40,6 @@ pub struct Card {
     pub serial: u64,
     pub blocks: u64,
     pub copies: u64,
-}
-
-// What reading a card answers.
-#[derive(Clone, Copy)]
-pub enum CardRead {
-    Good(Card),
-    Refused(Refusal),
 }
 
 // The bytes of a block of a kind.
@@ -77,13 +70,10 @@ fn copy_count(code: u64) -> u64
 pub fn copy_code(copies: u64) -> u64
     ensures { result ≡ copy_code copies }
 {
-    let counts = COPY_COUNTS;
-    let mut code: usize = 0;
-    while code < 6 {
-        if counts[code] == copies {
+    for (code, count) in COPY_COUNTS[..6].iter().enumerate() {
+        if *count == copies {
             return code as u64;
         }
-        code += 1;
     }
     6
 }
@@ -127,198 +117,147 @@ fn unpack(card: &[u8]) -> Card
     }
 }
 
-// Rate 1 goes only with the largest block.
-fn rate_serves(rate: u64, kind: u64) -> bool
-    ensures { result ≡ (eqb rate 0 || eqb rate 1 && eqb kind 4) }
-{
-    if rate == 0 {
-        return true;
-    }
-    if rate != 1 {
-        return false;
-    }
-    kind == 4
-}
-
-// Frame control goes only with QPSK.
-fn modulation_serves(kind: u64, modulation: u64) -> bool
-    ensures { result ≡ (not (eqb kind 0) || eqb modulation 1) }
-{
-    if kind != 0 {
-        return true;
-    }
-    modulation == 1
-}
-
-// Whether a mode is defined.
-fn is_defined_mode(band: u64, kind: u64, rate: u64, modulation: u64) -> bool
-    ensures { result ≡ defined_mode band kind rate modulation }
-{
-    if 3 < band {
-        return false;
-    }
-    if 4 < kind {
-        return false;
-    }
-    if 2 < modulation {
-        return false;
-    }
-    if rate_serves(rate, kind) {
-        return modulation_serves(kind, modulation);
-    }
-    false
-}
-
-// One block and one copy.
-pub fn is_single(blocks: u64, copies: u64) -> bool
-    ensures { result ≡ (eqb blocks 1 && eqb copies 1) }
-{
-    if blocks != 1 {
-        return false;
-    }
-    copies == 1
-}
-
-// Whether the counts are defined for a kind: more copies than one go only with a payload.
-fn is_defined_counts(kind: u64, blocks: u64, copies: u64) -> bool
-    ensures { result ≡ defined_counts kind blocks copies }
-{
-    if is_single(blocks, copies) {
-        return true;
-    }
-    if kind == 0 {
-        return false;
-    }
-    if copy_code(copies) < 6 {
-        return blocks == 1;
-    }
-    false
-}
-
-// Whether a card's mode and its counts are defined.
-pub fn is_defined(c: Card) -> bool
-    ensures { result ≡ defined c }
-{
-    if is_defined_mode(c.band, c.kind, c.rate, c.modulation) {
-        return is_defined_counts(c.kind, c.blocks, c.copies);
-    }
-    false
-}
-
 // Whether there is such a version.
 pub fn is_version(version: u64) -> bool
     ensures { result ≡ is_version version }
 {
-    if version == 1 {
-        return true;
-    }
-    version == 2
+    version == 1 || version == 2
 }
 
-// A version that there is, and nothing in the spare bit.
-pub fn is_versioned(version: u64, spare: u64) -> bool
-    ensures { result ≡ (is_version version && eqb spare 0) }
-{
-    if is_version(version) {
-        return spare == 0;
+impl Card {
+    // A version that there is, and nothing in the spare bit.
+    pub fn is_versioned(&self) -> bool
+        ensures { result ≡ versioned self.now }
+    {
+        is_version(self.version) && self.spare == 0
     }
-    false
+
+    // Rate 1 goes only with the largest block.
+    fn has_served_rate(&self) -> bool
+        ensures { result ≡ (eqb self.now.rate 0 || eqb self.now.rate 1 && eqb self.now.kind 4) }
+    {
+        self.rate == 0 || self.rate == 1 && self.kind == 4
+    }
+
+    // Frame control goes only with QPSK.
+    fn has_served_modulation(&self) -> bool
+        ensures { result ≡ (not (eqb self.now.kind 0) || eqb self.now.modulation 1) }
+    {
+        self.kind != 0 || self.modulation == 1
+    }
+
+    // Whether the mode is defined.
+    #[tactic(auto, unfolding(crate::specs::Modes::defined_mode))]
+    fn has_defined_mode(&self) -> bool
+        ensures { result ≡ defined_mode self.now.band self.now.kind self.now.rate self.now.modulation }
+    {
+        self.band <= 3
+            && self.kind <= 4
+            && self.modulation <= 2
+            && self.has_served_rate()
+            && self.has_served_modulation()
+    }
+
+    // One block and one copy.
+    pub fn is_single(&self) -> bool
+        ensures { result ≡ single self.now }
+    {
+        self.blocks == 1 && self.copies == 1
+    }
+
+    // Whether the counts are defined for the kind: more copies than one go only with a payload.
+    fn has_defined_counts(&self) -> bool
+        ensures { result ≡ defined_counts self.now.kind self.now.blocks self.now.copies }
+    {
+        self.is_single() || self.kind != 0 && copy_code(self.copies) < 6 && self.blocks == 1
+    }
+
+    // Whether the mode and the counts are defined.
+    pub fn is_defined(&self) -> bool
+        ensures { result ≡ defined self.now }
+    {
+        self.has_defined_mode() && self.has_defined_counts()
+    }
+
+    // The ten fields in order.
+    fn fields(&self) -> [u64; 10]
+        ensures { result ≡ fields_of self.now }
+    {
+        [
+            self.version,
+            self.band,
+            self.kind,
+            self.rate,
+            self.modulation,
+            self.taps,
+            self.spare,
+            self.serial,
+            self.blocks,
+            self.copies,
+        ]
+    }
 }
 
 // Whether twelve bytes of version 2 have something in the padding.
 fn is_padded(card: &[u8], version: u64) -> bool
     ensures { result ≡ (eqb (length card.now) 12 && eqb version 2 && not (eqb (padding_of card.now) 0)) }
 {
-    if card.len() != 12 {
-        return false;
-    }
-    if version != 2 {
-        return false;
-    }
-    card[3] % 8 != 0
+    card.len() == 12 && version == 2 && card[3] % 8 != 0
 }
 
 // Whether a card of some version has so many bytes.
 pub fn is_length(n: usize) -> bool
     ensures { result ≡ (eqb n 11 || eqb n 12) }
 {
-    if n == 11 {
-        return true;
-    }
-    n == 12
+    n == 11 || n == 12
 }
 
 // The card in some bytes, or refusal 1, 2, 10 or 3.
-pub fn read_card(card: &[u8]) -> CardRead
-    ensures { card_read result ≡ read_card card.now }
+pub fn read_card(card: &[u8]) -> Result<Card, Refusal>
+    ensures { answer result ≡ read_card card.now }
 {
     if !is_length(card.len()) {
-        return CardRead::Refused(Refusal::CardLength(card.len()));
+        return Err(Refusal::CardLength(card.len()));
     }
     let c = unpack(card);
-    if !is_versioned(c.version, c.spare) {
-        return CardRead::Refused(Refusal::Version);
+    if !c.is_versioned() {
+        return Err(Refusal::Version);
     }
     if is_padded(card, c.version) {
-        return CardRead::Refused(Refusal::Version);
+        return Err(Refusal::Version);
     }
     if card.len() != card_bytes(c.version) {
-        return CardRead::Refused(Refusal::VersionLength);
+        return Err(Refusal::VersionLength);
     }
-    if !is_defined(c) {
-        return CardRead::Refused(Refusal::Mode);
+    if !c.is_defined() {
+        return Err(Refusal::Mode);
     }
-    CardRead::Good(c)
+    Ok(c)
 }
 
 // The gate of the entries above: the card in some bytes, where its kind is one from `first` to `last`, or refusal 1, 2, 10 or 3.
-pub fn served_card(card: &[u8], first: u64, last: u64) -> CardRead
-    ensures { card_read result ≡ gate first last card.now }
+pub fn served_card(card: &[u8], first: u64, last: u64) -> Result<Card, Refusal>
+    ensures { answer result ≡ gate first last card.now }
 {
-    match read_card(card) {
-        CardRead::Refused(r) => CardRead::Refused(r),
-        CardRead::Good(c) => {
-            if c.kind < first {
-                return CardRead::Refused(Refusal::Mode);
-            }
-            if last < c.kind {
-                return CardRead::Refused(Refusal::Mode);
-            }
-            CardRead::Good(c)
-        }
+    let c = read_card(card)?;
+    if c.kind < first {
+        return Err(Refusal::Mode);
     }
-}
-
-// The ten fields in order at the start of `fields`.
-fn put_fields(c: Card, fields: &mut [u64])
-    requires { 10 ≤ length fields.old }
-    ensures { fields.new ≡ fields_of c ++ drop 10 fields.old }
-{
-    fields[0] = c.version;
-    fields[1] = c.band;
-    fields[2] = c.kind;
-    fields[3] = c.rate;
-    fields[4] = c.modulation;
-    fields[5] = c.taps;
-    fields[6] = c.spare;
-    fields[7] = c.serial;
-    fields[8] = c.blocks;
-    fields[9] = c.copies;
+    if last < c.kind {
+        return Err(Refusal::Mode);
+    }
+    Ok(c)
 }
 
 // The fields of the card in some bytes at the start of `fields`, or refusal 1, 2, 10, 3 or 5.
-pub fn read_fields(card: &[u8], fields: &mut [u64]) -> Answer
+pub fn read_fields(card: &[u8], fields: &mut [u64]) -> Result<usize, Refusal>
     ensures answer { answer result ≡ (read_fields card.now fields.old).report }
     ensures fields { fields.new ≡ (read_fields card.now fields.old).out }
 {
-    match read_card(card) {
-        CardRead::Refused(r) => Answer::Refused(r),
-        CardRead::Good(c) => {
-            if fields.len() < 10 {
-                return Answer::Refused(Refusal::Room(10));
-            }
-            put_fields(c, fields);
-            Answer::Done(10)
-        }
+    let c = read_card(card)?;
+    if fields.len() < 10 {
+        return Err(Refusal::Room(10));
     }
+    fields[..10].copy_from_slice(&c.fields());
+    Ok(10)
 }

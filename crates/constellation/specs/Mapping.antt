@@ -4,13 +4,11 @@ use Rattle.std.specs.Float.{binary64}
 use Rattle.std.specs.Float.Ieee.{minus, mul, of_int}
 use Rattle.bits.specs.Lists.{first_above}
 use Rattle.refusal.specs.declared.Refusal.TheVariants.{Mode, Item}
-use Rattle.refusal.specs.Report.{Report, done, refusal}
+use Rattle.refusal.specs.Report.{Report}
 use Rattle.refusal.specs.Outcome.{Row, row, reported}
 use Rattle.card.specs.Modes.{carrier_bits}
 use Rattle.constellation.specs.declared.Point.{Point}
 use Rattle.constellation.specs.declared.Pair.{Pair}
-use Rattle.constellation.specs.declared.Mapped.{Mapped}
-use Rattle.constellation.specs.declared.Mapped.TheVariants.{At, Refused}
 use Rattle.constellation.specs.Factors.{by_modulation, factor_of}
 
 abbrev pub pair : ℕ → ℕ → Pair
@@ -46,11 +44,6 @@ coordinate modulation level = mul binary64 (of_int binary64 level) (factor_of mo
 -- the point of the bits d 0, d 1, ..
 unfoldable pub point_of : ℕ → (ℕ → ℕ) → Point
 point_of modulation d = record { i = coordinate modulation (level_i modulation d); q = coordinate modulation (level_q modulation d) }
-
--- the report of each case of `Mapped`
-abbrev pub mapped : Mapped → Report Point
-mapped (At p) = done p
-mapped (Refused r) = refusal r
 
 -- the cause "an item is not legal": some bit is neither 0 nor 1
 abbrev pub illegal_bit : List ℕ → Row

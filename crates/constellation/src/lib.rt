@@ -9,10 +9,10 @@ ghost use Rattle.std.specs.Float.Ieee.{of_int};
 ghost use Rattle.refusal.specs.Report.{answer};
 ghost use Rattle.card.specs.Modes.{carrier_bits};
 ghost use Rattle.constellation.specs.Factors.{factor_of};
-ghost use Rattle.constellation.specs.Mapping.{level2_of, level4_of, point_of, mapped, mapping};
+ghost use Rattle.constellation.specs.Mapping.{level2_of, level4_of, point_of, mapping};
 ghost use Rattle.constellation.specs.Entries.{map_outcome};
 
-use refusal::{Answer, Refusal};
+use refusal::Refusal;
 
 // m of the factors m / 2^53 of QPSK and m / 2^54 of 16QAM: the whole numbers nearest to 2^53/√2 and 2^54/√10.
 const QPSK_NUMERATOR: u64 = 6369051672525773;
@@ -28,13 +28,6 @@ pub const QAM_FACTOR: f64 = QAM_NUMERATOR as f64 / 18014398509481984.0;
 pub struct Point {
     pub i: f64,
     pub q: f64,
-}
-
-// What mapping answers.
-#[derive(Clone, Copy)]
-pub enum Mapped {
-    At(Point),
-    Refused(Refusal),
 }
 
 // The two items of a 16QAM axis. A label is such a pair, and so is what `slicing` makes of a coordinate.
@@ -100,42 +93,42 @@ fn point_of(modulation: u8, bits: &[u8]) -> Point
 }
 
 // Public entry: the point of a carrier's bits, of which BPSK uses the first and QPSK the first two.
-pub fn map(modulation: u8, d0: u8, d1: u8, d2: u8, d3: u8) -> Mapped
-    ensures { mapped result ≡ mapping modulation (d0 ∷ d1 ∷ d2 ∷ d3 ∷ []) }
+pub fn map(modulation: u8, d0: u8, d1: u8, d2: u8, d3: u8) -> Result<Point, Refusal>
+    ensures { answer result ≡ mapping modulation (d0 ∷ d1 ∷ d2 ∷ d3 ∷ []) }
 {
     if 2 < modulation {
-        return Mapped::Refused(Refusal::Mode);
+        return Err(Refusal::Mode);
     }
     let n = card::carrier_bits(modulation as usize);
     let all = [d0, d1, d2, d3];
     let bad = bits::first_above(&all[..n], 1);
     if bad < n {
-        return Mapped::Refused(Refusal::Item(bad));
+        return Err(Refusal::Item(bad));
     }
-    Mapped::At(point_of(modulation, &all[..n]))
+    Ok(point_of(modulation, &all[..n]))
 }
 
 // Public entry: map over lent memory. The coordinates I and Q go to the start of `point`.
-pub fn map_into(modulation: u64, bits: &[u8], point: &mut [f64]) -> Answer
+pub fn map_into(modulation: u64, bits: &[u8], point: &mut [f64]) -> Result<usize, Refusal>
     ensures answer { answer result ≡ (map_outcome modulation bits.now point.old).report }
     ensures point { point.new ≡ (map_outcome modulation bits.now point.old).out }
 {
     if 2 < modulation {
-        return Answer::Refused(Refusal::Mode);
+        return Err(Refusal::Mode);
     }
     let n = card::carrier_bits(modulation as usize);
     if bits.len() != n {
-        return Answer::Refused(Refusal::Length(bits.len()));
+        return Err(Refusal::Length(bits.len()));
     }
     if point.len() < 2 {
-        return Answer::Refused(Refusal::Room(2));
+        return Err(Refusal::Room(2));
     }
-    let bad = bits::first_above(bits, 1);
-    if bad < n {
-        return Answer::Refused(Refusal::Item(bad));
+    let illegal = bits::first_above(bits, 1);
+    if illegal < n {
+        return Err(Refusal::Item(illegal));
     }
     let p = point_of(modulation as u8, bits);
     point[0] = p.i;
     point[1] = p.q;
-    Answer::Done(2)
+    Ok(2)
 }

@@ -11,75 +11,66 @@ ghost use Rattle.refusal.specs.Report.{answer};
 ghost use Rattle.frame_control.specs.Entries.{send_by, send as send_outcome, read_by, read as read_outcome};
 
 use bands::Band;
-use card::CardRead;
 use diversity::Symbols;
-use refusal::{Answer, Refusal};
+use refusal::Refusal;
 
 // The items of a word on some symbols.
-fn send_by(symbols: &Symbols, taps: u16, word: &[u8], out: &mut [u8]) -> Answer
+fn send_by(symbols: &Symbols, taps: u16, word: &[u8], out: &mut [u8]) -> Result<usize, Refusal>
     ensures answer { answer result ≡ (send_by symbols.now.carriers symbols.now.offsets.now taps word.now out.old).report }
     ensures items { out.new ≡ (send_by symbols.now.carriers symbols.now.offsets.now taps word.now out.old).out }
 {
     if word.len() != 16 {
-        return Answer::Refused(Refusal::Length(word.len()));
+        return Err(Refusal::Length(word.len()));
     }
     let needed = symbols.item_count();
     if out.len() < needed {
-        return Answer::Refused(Refusal::Room(needed));
+        return Err(Refusal::Room(needed));
     }
     let mut coded = [0u8; 256];
     fec::encode(0, 0, taps, word, &mut coded);
     symbols.copy_items(&coded, out);
-    Answer::Done(needed)
+    Ok(needed)
 }
 
 // Sends a word: its items at the start of `out`, or refusal 1, 2, 10, 3, 4 or 5.
-pub fn send(card: &[u8], word: &[u8], out: &mut [u8]) -> Answer
+pub fn send(card: &[u8], word: &[u8], out: &mut [u8]) -> Result<usize, Refusal>
     ensures answer { answer result ≡ (send_outcome card.now word.now out.old).report }
     ensures items { out.new ≡ (send_outcome card.now word.now out.old).out }
 {
-    match card::served_card(card, 0, 0) {
-        CardRead::Refused(r) => Answer::Refused(r),
-        CardRead::Good(c) => {
-            let band = Band {
-                number: c.band as usize,
-            };
-            send_by(&Symbols::on(band), c.taps as u16, word, out)
-        },
-    }
+    let c = card::served_card(card, 0, 0)?;
+    let band = Band {
+        number: c.band as usize,
+    };
+    send_by(&Symbols::on(band), c.taps as u16, word, out)
 }
 
 // The word that the items on some symbols decide.
-fn read_by(symbols: &Symbols, taps: u16, items: &[u8], out: &mut [u8]) -> Answer
+fn read_by(symbols: &Symbols, taps: u16, items: &[u8], out: &mut [u8]) -> Result<usize, Refusal>
     ensures answer { answer result ≡ (read_by symbols.now.carriers symbols.now.offsets.now taps items.now out.old).report }
     ensures word { out.new ≡ (read_by symbols.now.carriers symbols.now.offsets.now taps items.now out.old).out }
 {
     if items.len() != symbols.item_count() {
-        return Answer::Refused(Refusal::Length(items.len()));
+        return Err(Refusal::Length(items.len()));
     }
     if out.len() < 16 {
-        return Answer::Refused(Refusal::Room(16));
+        return Err(Refusal::Room(16));
     }
     let bad = bits::first_above(items, 2);
     if bad < items.len() {
-        return Answer::Refused(Refusal::Item(bad));
+        return Err(Refusal::Item(bad));
     }
     let decided = combining::decide(symbols, items);
     recovery::recover(0, 0, taps, &decided, out)
 }
 
 // Reads a word: its bytes at the start of `out`, or refusal 1, 2, 10 or 3 to 8.
-pub fn read(card: &[u8], items: &[u8], out: &mut [u8]) -> Answer
+pub fn read(card: &[u8], items: &[u8], out: &mut [u8]) -> Result<usize, Refusal>
     ensures answer { answer result ≡ (read_outcome card.now items.now out.old).report }
     ensures word { out.new ≡ (read_outcome card.now items.now out.old).out }
 {
-    match card::served_card(card, 0, 0) {
-        CardRead::Refused(r) => Answer::Refused(r),
-        CardRead::Good(c) => {
-            let band = Band {
-                number: c.band as usize,
-            };
-            read_by(&Symbols::on(band), c.taps as u16, items, out)
-        },
-    }
+    let c = card::served_card(card, 0, 0)?;
+    let band = Band {
+        number: c.band as usize,
+    };
+    read_by(&Symbols::on(band), c.taps as u16, items, out)
 }

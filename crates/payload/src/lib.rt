@@ -16,9 +16,9 @@ ghost use Rattle.payload_layout.specs.Layouts.{layout_of, items as items_of};
 ghost use Rattle.payload.specs.Loops.Blocks.{LaidBlock};
 ghost use Rattle.payload.specs.Entries.{sent_item, send_by, send as send_outcome, decided_bit, decided_block, read_by, read as read_outcome};
 
-use card::{Card, CardRead};
+use card::Card;
 use payload_layout::Layout;
-use refusal::{Answer, Refusal};
+use refusal::Refusal;
 
 // The layout of a block's coded bits, in as many copies as the card says. By numbers: a card handed over whole takes longer than this.
 fn block_layout(band: u64, kind: u64, rate: u64, modulation: u64, copies: u64) -> Layout
@@ -46,7 +46,7 @@ fn send_items(l: Layout, kind: usize, rate: usize, taps: u16, block: &[u8], out:
 }
 
 // Sending behind the card's checks: refusal 4 or 5, or the items.
-fn send_by(c: Card, block: &[u8], out: &mut [u8]) -> Answer
+fn send_by(c: Card, block: &[u8], out: &mut [u8]) -> Result<usize, Refusal>
     requires { Served 1 4 c }
     ensures answer { answer result ≡ (send_by c block.now out.old).report }
     ensures items { out.new ≡ (send_by c block.now out.old).out }
@@ -55,10 +55,10 @@ fn send_by(c: Card, block: &[u8], out: &mut [u8]) -> Answer
     let size = card::block_bytes(c.kind as usize);
     let needed = payload_layout::item_count(l);
     if block.len() != size {
-        return Answer::Refused(Refusal::Length(block.len()));
+        return Err(Refusal::Length(block.len()));
     }
     if out.len() < needed {
-        return Answer::Refused(Refusal::Room(needed));
+        return Err(Refusal::Room(needed));
     }
     send_items(
         l,
@@ -68,18 +68,16 @@ fn send_by(c: Card, block: &[u8], out: &mut [u8]) -> Answer
         block,
         out,
     );
-    Answer::Done(needed)
+    Ok(needed)
 }
 
 // The items of a block at the start of `out`, or refusal 1, 2, 10, 3, 4 or 5.
-pub fn send(card: &[u8], block: &[u8], out: &mut [u8]) -> Answer
+pub fn send(card: &[u8], block: &[u8], out: &mut [u8]) -> Result<usize, Refusal>
     ensures answer { answer result ≡ (send_outcome card.now block.now out.old).report }
     ensures items { out.new ≡ (send_outcome card.now block.now out.old).out }
 {
-    match card::served_card(card, 1, 4) {
-        CardRead::Refused(r) => Answer::Refused(r),
-        CardRead::Good(c) => send_by(c, block, out),
-    }
+    let c = card::served_card(card, 1, 4)?;
+    send_by(c, block, out)
 }
 
 // ---- reading
@@ -92,7 +90,7 @@ fn read_items(
     taps: u16,
     items: &[u8],
     out: &mut [u8],
-) -> Answer
+) -> Result<usize, Refusal>
     requires { (LaidBlock l kind rate) × (length items.now ≡ items_of l) × (block_bytes kind ≤ length out.old) }
     ensures answer { answer result ≡ (decided_block kind rate taps (decided_bit l items.now) out.old).report }
     ensures bytes { out.new ≡ (decided_block kind rate taps (decided_bit l items.now) out.old).out }
@@ -101,32 +99,28 @@ fn read_items(
     payload_combining::decide(l, items, &mut decided);
     let count = l.coded;
     let mut block = [0u8; 520];
-    match recovery::recover(kind, rate, taps, &decided[..count], &mut block) {
-        Answer::Refused(r) => Answer::Refused(r),
-        Answer::Done(size) => {
-            scrambler::scramble(&block[..size], out);
-            Answer::Done(size)
-        }
-    }
+    let size = recovery::recover(kind, rate, taps, &decided[..count], &mut block)?;
+    scrambler::scramble(&block[..size], out);
+    Ok(size)
 }
 
 // Reading behind the card's checks: refusal 4, 5, 6, 7 or 8, or the block.
-fn read_by(c: Card, items: &[u8], out: &mut [u8]) -> Answer
+fn read_by(c: Card, items: &[u8], out: &mut [u8]) -> Result<usize, Refusal>
     requires { Served 1 4 c }
     ensures answer { answer result ≡ (read_by c items.now out.old).report }
     ensures bytes { out.new ≡ (read_by c items.now out.old).out }
 {
     let l = block_layout(c.band, c.kind, c.rate, c.modulation, c.copies);
     if items.len() != payload_layout::item_count(l) {
-        return Answer::Refused(Refusal::Length(items.len()));
+        return Err(Refusal::Length(items.len()));
     }
     let size = card::block_bytes(c.kind as usize);
     if out.len() < size {
-        return Answer::Refused(Refusal::Room(size));
+        return Err(Refusal::Room(size));
     }
     let illegal = bits::first_above(items, 2);
     if illegal < items.len() {
-        return Answer::Refused(Refusal::Item(illegal));
+        return Err(Refusal::Item(illegal));
     }
     read_items(
         l,
@@ -139,12 +133,10 @@ fn read_by(c: Card, items: &[u8], out: &mut [u8]) -> Answer
 }
 
 // The block of received items at the start of `out`, or refusal 1, 2, 10 or 3 to 8.
-pub fn read(card: &[u8], items: &[u8], out: &mut [u8]) -> Answer
+pub fn read(card: &[u8], items: &[u8], out: &mut [u8]) -> Result<usize, Refusal>
     ensures answer { answer result ≡ (read_outcome card.now items.now out.old).report }
     ensures bytes { out.new ≡ (read_outcome card.now items.now out.old).out }
 {
-    match card::served_card(card, 1, 4) {
-        CardRead::Refused(r) => Answer::Refused(r),
-        CardRead::Good(c) => read_by(c, items, out),
-    }
+    let c = card::served_card(card, 1, 4)?;
+    read_by(c, items, out)
 }

@@ -9,8 +9,8 @@ ghost use Rattle.text.specs.Text.{line, decimal, binary};
 ghost use Rattle.printed_card.specs.Text.{mode_lines, count_lines, card_lines, text_of, card_text, longest, text_card};
 ghost use Rattle.printed_card.specs.Loops.Drafts.{Holds, Grown, Short};
 
-use card::{Card, CardRead};
-use refusal::{Answer, Refusal};
+use card::Card;
+use refusal::Refusal;
 
 // No text is longer (`text-short` of proofs/).
 pub const LONGEST: usize = 108;
@@ -106,7 +106,7 @@ fn card_lines(c: Card) -> Draft
 fn refused_line(r: Refusal) -> Draft
     ensures { Holds result (text_of (refusal r)) }
 {
-    with_number(blank(), b"refused", refusal::number_of(r) as u64)
+    with_number(blank(), b"refused", r.number() as u64)
 }
 
 // The text of some bytes as a card.
@@ -114,22 +114,22 @@ fn text_of(card: &[u8]) -> Draft
     ensures { Holds result (card_text card.now) }
 {
     match card::read_card(card) {
-        CardRead::Good(c) => card_lines(c),
-        CardRead::Refused(r) => refused_line(r),
+        Ok(c) => card_lines(c),
+        Err(r) => refused_line(r),
     }
 }
 
 // The text of some bytes as a card at the start of `out`, or refusal 5 with the needed length.
-pub fn card_text(card: &[u8], out: &mut [u8]) -> Answer
+pub fn card_text(card: &[u8], out: &mut [u8]) -> Result<usize, Refusal>
     ensures answer { answer result ≡ (text_card card.now out.old).report }
     ensures bytes { out.new ≡ (text_card card.now out.old).out }
 {
     let draft = text_of(card);
     let len = draft.len;
     if out.len() < len {
-        return Answer::Refused(Refusal::Room(len));
+        return Err(Refusal::Room(len));
     }
     let bytes = draft.bytes;
     bits::put(&bytes[..len], out);
-    Answer::Done(len)
+    Ok(len)
 }

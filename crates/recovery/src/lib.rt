@@ -15,7 +15,7 @@ ghost use Rattle.turbo.specs.Parity.{kept_bit};
 ghost use Rattle.interleaver_shape.specs.Shapes.{coded_bits};
 ghost use Rattle.recovery.specs.Recovery.{data_bit, parity_bit, recovered};
 
-use refusal::{Answer, Refusal};
+use refusal::Refusal;
 
 // The bytes of the data bits and those of the kept parity bits of a block's coded bits, all of them decided, at the start of `block` and of
 // `parity`, by way of the rows of its source bits.
@@ -75,7 +75,7 @@ fn recover_by(
     decided: &[u8],
     rows: &mut [u8],
     out: &mut [u8],
-) -> Answer
+) -> Result<usize, Refusal>
     requires defined { (Defined kind rate) × (length decided.now ≡ coded_bits kind rate)
         × (length decided.now ≤ first_above 1 decided.now) }
     requires rate_in_bounds { (coded_bits kind rate ≤ length rows.old) × (block_bytes kind ≤ length out.old) }
@@ -97,22 +97,28 @@ fn recover_by(
         &mut again,
     );
     if 0 < errors {
-        return Answer::Refused(Refusal::Parity(errors));
+        return Err(Refusal::Parity(errors));
     }
     bits::put(&block[..size], out);
-    Answer::Done(size)
+    Ok(size)
 }
 
 // The bytes of a block from its decided coded bits, at the start of `out`, or refusal 7 or 8. Nothing is written before both checks
 // have passed.
-pub fn recover(kind: usize, rate: usize, taps: u16, decided: &[u8], out: &mut [u8]) -> Answer
+pub fn recover(
+    kind: usize,
+    rate: usize,
+    taps: u16,
+    decided: &[u8],
+    out: &mut [u8],
+) -> Result<usize, Refusal>
     requires { (Defined kind rate) × (length decided.now ≡ coded_bits kind rate) × (block_bytes kind ≤ length out.old) }
     ensures answer { answer result ≡ (recovered kind rate taps (λ i. get_or decided.now i 0) out.old).report }
     ensures bytes { out.new ≡ (recovered kind rate taps (λ i. get_or decided.now i 0) out.old).out }
 {
     let undecided = bits::first_above(decided, 1);
     if undecided < decided.len() {
-        return Answer::Refused(Refusal::Majority(undecided));
+        return Err(Refusal::Majority(undecided));
     }
     if kind == 0 {
         let mut rows = [0u8; 256];

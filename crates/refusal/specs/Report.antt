@@ -1,9 +1,7 @@
 -- Reports: the number of paper 01's table ("Numbers a fitter may see") and what comes with it. Assumes nothing.
-use Rattle.std.specs.Prelude.{List, [], ◌∷◌, ℕ}
+use Rattle.std.specs.Prelude.{List, [], ◌∷◌, ℕ, Result, Ok, Err}
 use Rattle.refusal.specs.declared.Refusal.{Refusal}
 use Rattle.refusal.specs.declared.Refusal.TheVariants.{CardLength, Version, VersionLength, Mode, Length, Room, Item, Majority, Parity, Counts}
-use Rattle.refusal.specs.declared.Answer.{Answer}
-use Rattle.refusal.specs.declared.Answer.TheVariants.{Done, Refused}
 
 -- 0 with the answer, or a number of the table with the two values that come with it
 pub data Report (A : Type 0) : Type 0 where
@@ -24,9 +22,9 @@ refusal (Parity n) = refused 8 n 0
 refusal Counts = refused 11 0 0
 
 -- the report of each case of an answer
-abbrev pub answer : Answer → Report ℕ
-answer (Done n) = done n
-answer (Refused r) = refusal r
+abbrev pub answer : {A : Type 0} → Result A Refusal → Report A
+answer (Ok a) = done a
+answer (Err r) = refusal r
 
 -- a report's number
 abbrev pub number : {A : Type 0} → Report A → ℕ

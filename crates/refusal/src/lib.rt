@@ -9,7 +9,7 @@ ghost use Rattle.refusal.specs.Report.{refusal, answer, number, values};
 
 // A case for each number of the table, in its order. None has 9: it was "pad longer than the coded data", is withdrawn, and is given to
 // nothing else.
-#[derive(Clone, Copy)]
+#[derive(Clone, Copy, Debug, PartialEq, Eq)]
 pub enum Refusal {
     // 1: the card is neither 11 nor 12 bytes; its length
     CardLength(usize),
@@ -33,63 +33,56 @@ pub enum Refusal {
     Counts,
 }
 
-// What an entry answers that writes into a lent buffer: how many elements it wrote, or why it wrote none.
-#[derive(Clone, Copy)]
-pub enum Answer {
-    Done(usize),
-    Refused(Refusal),
-}
+impl Refusal {
+    // The number of a refusal.
+    pub fn number(self) -> u32
+        ensures { result ≡ number (refusal {A = ℕ} self) }
+    {
+        match self {
+            Refusal::CardLength(_) => 1,
+            Refusal::Version => 2,
+            Refusal::VersionLength => 10,
+            Refusal::Mode => 3,
+            Refusal::Length(_) => 4,
+            Refusal::Room(_) => 5,
+            Refusal::Item(_) => 6,
+            Refusal::Majority(_) => 7,
+            Refusal::Parity(_) => 8,
+            Refusal::Counts => 11,
+        }
+    }
 
-// The number of a refusal.
-pub fn number_of(r: Refusal) -> u32
-    ensures { result ≡ number (refusal {A = ℕ} r) }
-{
-    match r {
-        Refusal::CardLength(_) => 1,
-        Refusal::Version => 2,
-        Refusal::VersionLength => 10,
-        Refusal::Mode => 3,
-        Refusal::Length(_) => 4,
-        Refusal::Room(_) => 5,
-        Refusal::Item(_) => 6,
-        Refusal::Majority(_) => 7,
-        Refusal::Parity(_) => 8,
-        Refusal::Counts => 11,
+    // What comes with a refusal: 0 where nothing does.
+    fn value(self) -> usize
+        ensures { values (refusal self) ≡ result ∷ 0 ∷ [] }
+    {
+        match self {
+            Refusal::CardLength(n)
+            | Refusal::Length(n)
+            | Refusal::Room(n)
+            | Refusal::Item(n)
+            | Refusal::Majority(n)
+            | Refusal::Parity(n) => n,
+            Refusal::Version | Refusal::VersionLength | Refusal::Mode | Refusal::Counts => 0,
+        }
     }
 }
 
-// What comes with a refusal: 0 where nothing does.
-fn value_of(r: Refusal) -> usize
-    ensures { values (refusal r) ≡ result ∷ 0 ∷ [] }
-{
-    match r {
-        Refusal::CardLength(n) => n,
-        Refusal::Version => 0,
-        Refusal::VersionLength => 0,
-        Refusal::Mode => 0,
-        Refusal::Length(n) => n,
-        Refusal::Room(n) => n,
-        Refusal::Item(n) => n,
-        Refusal::Majority(n) => n,
-        Refusal::Parity(n) => n,
-        Refusal::Counts => 0,
-    }
-}
-
-// An answer as C takes it: the number is returned, and what comes with it is stored behind `value`.
-pub fn report(a: Answer, value: &mut [u64; 2]) -> u32
+// An answer as C takes it: the number is returned, and what comes with it is stored behind `value`. An entry that writes into a lent
+// buffer answers how many elements it wrote, or why it wrote none.
+pub fn report(a: Result<usize, Refusal>, value: &mut [u64; 2]) -> u32
     ensures number { result ≡ number (answer a) }
     ensures values { value.new ≡ values (answer a) }
 {
     match a {
-        Answer::Done(n) => {
+        Ok(n) => {
             *value = [n as u64, 0];
             0
         }
-        Answer::Refused(r) => {
-            let v = value_of(r);
+        Err(r) => {
+            let v = r.value();
             *value = [v as u64, 0];
-            number_of(r)
+            r.number()
         }
     }
 }

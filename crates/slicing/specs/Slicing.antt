@@ -1,9 +1,10 @@
 -- Received carriers to items: 0, 1, or 2 where lost. Assumes nothing.
-use Rattle.std.specs.Prelude.{ℕ, false, cond, List, [], ◌∷◌, ltb, pos, negsuc, Float, get_or, replicate}
+use Rattle.std.specs.Prelude.{ℕ, false, cond, List, [], ◌∷◌, ltb, pos, negsuc, Float, get_or, replicate, Result, Ok, Err}
 use Rattle.std.specs.Float.{nan, inf, fin, binary64}
 use Rattle.std.specs.Float.Ieee.{le, lt, add, sub, mul}
+use Rattle.refusal.specs.declared.Refusal.{Refusal}
 use Rattle.refusal.specs.declared.Refusal.TheVariants.{Mode}
-use Rattle.refusal.specs.Report.{Report, done, refused, refusal}
+use Rattle.refusal.specs.Report.{Report, done, refusal}
 use Rattle.refusal.specs.Outcome.{row, reported}
 use Rattle.card.specs.Modes.{carrier_bits}
 use Rattle.constellation.specs.declared.Pair.{Pair}
@@ -12,7 +13,7 @@ use Rattle.constellation.specs.Mapping.{pair, labels}
 use Rattle.slicing.specs.declared.Received.{Received}
 use Rattle.slicing.specs.declared.Received.TheVariants.{Heard, Lost}
 use Rattle.slicing.specs.declared.Sliced.{Sliced}
-use Rattle.slicing.specs.declared.Sliced.TheVariants.{One, Two, Four, Refused}
+use Rattle.slicing.specs.declared.Sliced.TheVariants.{One, Two, Four}
 
 -- what is read on an axis: the index of a level, from the lowest, or nothing
 pub data Reading : Type 0 where
@@ -85,17 +86,16 @@ items_of modulation Lost = replicate (carrier_bits modulation) 2
 items_of modulation (Heard i q) =
     by_modulation modulation (axis2_of modulation i ∷ []) (axis2_of modulation i ∷ axis2_of modulation q ∷ []) (four_items (axis4_of i) (axis4_of q))
 
--- the report of each case of `Sliced`, with the items as a list
-abbrev pub sliced : Sliced → Report (List ℕ)
-sliced (One a) = done (a ∷ [])
-sliced (Two a b) = done (a ∷ b ∷ [])
-sliced (Four a b c d) = done (a ∷ b ∷ c ∷ d ∷ [])
-sliced (Refused r) = refusal r
+-- the items in each case of `Sliced`
+abbrev pub items_in : Sliced → List ℕ
+items_in (One a) = a ∷ []
+items_in (Two a b) = a ∷ b ∷ []
+items_in (Four a b c d) = a ∷ b ∷ c ∷ d ∷ []
 
--- the items of a report, none where it is a refusal
-abbrev pub given : Report (List ℕ) → List ℕ
-given (done items) = items
-given (refused n v w) = []
+-- the report of each case of an answer, with the items as a list
+abbrev pub sliced : Result Sliced Refusal → Report (List ℕ)
+sliced (Ok s) = done (items_in s)
+sliced (Err r) = refusal r
 
 -- what slicing reports, by its rows
 abbrev pub slicing : ℕ → Received → Report (List ℕ)

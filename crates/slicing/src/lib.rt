@@ -9,11 +9,11 @@ ghost use Rattle.std.specs.Float.{inf};
 ghost use Rattle.std.specs.Float.Ieee.{lt, le};
 ghost use Rattle.refusal.specs.Report.{answer};
 ghost use Rattle.constellation.specs.Mapping.{pair};
-ghost use Rattle.slicing.specs.Slicing.{erasure_width, lower, upper, axis2_of, axis4_of, sliced, given, slicing};
+ghost use Rattle.slicing.specs.Slicing.{erasure_width, lower, upper, axis2_of, axis4_of, items_of, items_in, sliced, slicing};
 ghost use Rattle.slicing.specs.Entries.{received_of, slice_outcome};
 
 use constellation::{Pair, QAM_FACTOR};
-use refusal::{Answer, Refusal};
+use refusal::Refusal;
 
 // The erasure width, as a part of the factor: sizes up to it are lost.
 const ERASURE_FRACTION: f64 = 0.125;
@@ -38,7 +38,6 @@ pub enum Sliced {
     One(u8),
     Two(u8, u8),
     Four(u8, u8, u8, u8),
-    Refused(Refusal),
 }
 
 // The erasure width of a modulation.
@@ -48,11 +47,11 @@ fn erasure_width(modulation: u8) -> f64
     constellation::factor_of(modulation) * ERASURE_FRACTION
 }
 
-// Above the width, and finite. The quotient is the infinity, which has no literal.
+// Above the width, and finite.
 fn above(width: f64, x: f64) -> bool
     ensures { result ≡ lt width x && lt x (inf false) }
 {
-    if width < x { x < 1.0 / 0.0 } else { false }
+    width < x && x < f64::INFINITY
 }
 
 // The item of an axis of BPSK or QPSK.
@@ -101,13 +100,11 @@ fn axis4(x: f64) -> Pair
     }
 }
 
-// Public entry: the items of a received carrier.
-pub fn slice(modulation: u8, received: Received) -> Sliced
-    ensures { sliced result ≡ slicing modulation received }
+// The items of a received carrier of a modulation that there is.
+fn items_of(modulation: u8, received: Received) -> Sliced
+    requires { modulation ≤ 2 }
+    ensures { items_in result ≡ items_of modulation received }
 {
-    if 2 < modulation {
-        return Sliced::Refused(Refusal::Mode);
-    }
     match received {
         Received::Lost => {
             if modulation == 0 {
@@ -134,6 +131,16 @@ pub fn slice(modulation: u8, received: Received) -> Sliced
     }
 }
 
+// Public entry: the items of a received carrier.
+pub fn slice(modulation: u8, received: Received) -> Result<Sliced, Refusal>
+    ensures { sliced result ≡ slicing modulation received }
+{
+    if 2 < modulation {
+        return Err(Refusal::Mode);
+    }
+    Ok(items_of(modulation, received))
+}
+
 // A received carrier by a number that is 0 where it is lost.
 fn received_of(heard: u64, i: f64, q: f64) -> Received
     ensures { result ≡ received_of heard i q }
@@ -145,40 +152,36 @@ fn received_of(heard: u64, i: f64, q: f64) -> Received
     }
 }
 
-// The items of a carrier at the start of `items`; none of one that was refused.
+// The items of a carrier at the start of `items`.
 fn put_items(s: Sliced, items: &mut [u8])
-    requires { length (given (sliced s)) ≤ length items.old }
-    ensures { items.new ≡ given (sliced s) ++ drop (length (given (sliced s))) items.old }
+    requires { length (items_in s) ≤ length items.old }
+    ensures { items.new ≡ items_in s ++ drop (length (items_in s)) items.old }
 {
     match s {
-        Sliced::One(a) => {
-            let all = [a];
-            bits::put(&all, items);
-        }
-        Sliced::Two(a, b) => {
-            let all = [a, b];
-            bits::put(&all, items);
-        }
-        Sliced::Four(a, b, c, d) => {
-            let all = [a, b, c, d];
-            bits::put(&all, items);
-        }
-        Sliced::Refused(_) => {}
+        Sliced::One(a) => bits::put(&[a], items),
+        Sliced::Two(a, b) => bits::put(&[a, b], items),
+        Sliced::Four(a, b, c, d) => bits::put(&[a, b, c, d], items),
     }
 }
 
 // Public entry: slice over lent memory. `heard` is 0 for a lost carrier, and any other number for one heard at i and q.
-pub fn slice_into(modulation: u64, heard: u64, i: f64, q: f64, items: &mut [u8]) -> Answer
+pub fn slice_into(
+    modulation: u64,
+    heard: u64,
+    i: f64,
+    q: f64,
+    items: &mut [u8],
+) -> Result<usize, Refusal>
     ensures answer { answer result ≡ (slice_outcome modulation (received_of heard i q) items.old).report }
     ensures items { items.new ≡ (slice_outcome modulation (received_of heard i q) items.old).out }
 {
     if 2 < modulation {
-        return Answer::Refused(Refusal::Mode);
+        return Err(Refusal::Mode);
     }
     let n = card::carrier_bits(modulation as usize);
     if items.len() < n {
-        return Answer::Refused(Refusal::Room(n));
+        return Err(Refusal::Room(n));
     }
-    put_items(slice(modulation as u8, received_of(heard, i, q)), items);
-    Answer::Done(n)
+    put_items(items_of(modulation as u8, received_of(heard, i, q)), items);
+    Ok(n)
 }

@@ -1,26 +1,28 @@
 -- `card::served_card` meets its contract: reading decides, and then the kind. Assumes nothing.
 use mathlib.Core.Path.{sym, ap, ◌∙◌}
+use Rattle.std.proofs.lemmas.Result.{err_from_is_err_and}
 use borrow.Author.Tests.{le-leb, lt-leb}
-use Rattle.card.specs.Entries.{card_read}
+use Rattle.refusal.specs.Report.{answer}
 use Rattle.card.proofs.GateLaws.{refused-alike, other-kind, served-kind}
 use Rattle.card.proofs.served_card.Goals as goal
 
 pub returns-then-c-first : goal.returns-then-c-first
 returns-then-c-first c =
-    let e = sym c.read_card.ensures ∙ ap card_read c.in-Good.is in
+    let e = sym c.read_card.ensures ∙ ap answer c.in_ok-c.was in
     sym (other-kind _ _ _ _ e (simp (lt-leb _ _ c.if-c-first.true)))
 
 pub returns-then-last-c : goal.returns-then-last-c
 returns-then-last-c c =
-    let e = sym c.read_card.ensures ∙ ap card_read c.in-Good.is in
+    let e = sym c.read_card.ensures ∙ ap answer c.in_ok-c.was in
     sym (other-kind _ _ _ _ e (simp (le-leb _ _ c.if-c-first.false, lt-leb _ _ c.if-last-c.true)))
 
-pub returns-in-Refused : goal.returns-in-Refused
-returns-in-Refused c =
-    let e = sym c.read_card.ensures ∙ ap card_read c.in-Refused.is in
-    sym (refused-alike _ _ _ c.in-Refused.r e)
+pub returns-in_err-c : goal.returns-in_err-c
+returns-in_err-c c =
+    let p = err_from_is_err_and c.from_residual.result c.from_residual.ensures.1 in
+    let e = sym c.read_card.ensures ∙ ap answer c.in_err-c.was in
+    rw (p.1, p.2) (sym (refused-alike _ _ _ c.in_err-c.field-0.0 e))
 
-pub returns-else-last-c : goal.returns-else-last-c
-returns-else-last-c c =
-    let e = sym c.read_card.ensures ∙ ap card_read c.in-Good.is in
+pub returns : goal.returns
+returns c =
+    let e = sym c.read_card.ensures ∙ ap answer c.in_ok-c.was in
     sym (served-kind _ _ _ _ e (simp (le-leb _ _ c.if-c-first.false, le-leb _ _ c.if-last-c.false)))

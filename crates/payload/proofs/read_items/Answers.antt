@@ -1,4 +1,5 @@
 -- `payload::read_items` meets its contract: the bits are decided, recovered and descrambled, or refused. Assumes nothing.
+use Rattle.std.proofs.lemmas.Result.{err_from_is_err_and}
 use mathlib.Core.Path.{◌≡◌, sym, ap, ◌∙◌}
 use mathlib.Core.List.{List}
 use Prim.Native.Nat.{ℕ}
@@ -12,7 +13,7 @@ use Rattle.payload.specs.Entries.{decided_bit}
 use Rattle.payload.proofs.EntryLaws.{block_refused}
 use Rattle.payload.proofs.BufferLaws.{part_room, part_length, coded-fits, decided-recovered, block_size, block-length, block_room, block-report, block_out}
 use Rattle.payload.proofs.read_items.Goals as goal
-use Rattle.payload.proofs.read_items.Goals.{After-recover, In-Done}
+use Rattle.payload.proofs.read_items.Goals.{After-recover, In_ok-size}
 
 -- what is recovered from the array is what is recovered from the decided bits
 recovered-is : (c : After-recover)
@@ -22,10 +23,10 @@ recovered-is c =
     let law = decided-recovered c.args.l c.args.kind c.args.rate c.args.taps c.requires.0 c.args.items.now _ _ (replicate 520 0) c.decide.ensures in
     (c.recover.ensures.answer ∙ ap (λ (q : Outcome ℕ (List ℕ)). q.report) law, c.recover.ensures.bytes ∙ ap (λ (q : Outcome ℕ (List ℕ)). q.out) law)
 
-done-is : (c : In-Done)
+done-is : (c : In_ok-size)
     → answer c.recover.result ≡ (recovered c.args.kind c.args.rate c.args.taps (decided_bit c.args.l c.args.items.now) (replicate 520 0)).report
-    → (recovered c.args.kind c.args.rate c.args.taps (decided_bit c.args.l c.args.items.now) (replicate 520 0)).report ≡ done c.in-Done.size
-done-is c is = sym is ∙ ap answer c.in-Done.is
+    → (recovered c.args.kind c.args.rate c.args.taps (decided_bit c.args.l c.args.items.now) (replicate 520 0)).report ≡ done c.in_ok-size.size
+done-is c is = sym is ∙ ap answer c.in_ok-size.was
 
 pub decide-requires : goal.decide-requires
 decide-requires c =
@@ -45,28 +46,29 @@ recover-requires c =
 
 pub slice_bounds-block-end : goal.slice_bounds-block-end
 slice_bounds-block-end c =
-    block_room c.args.kind c.args.rate c.args.taps c.requires.0.defined (decided_bit c.args.l c.args.items.now) (replicate 520 0) _ c.in-Done.size (done-is (goal.at.slice_bounds-block-end c).In-Done (recovered-is (goal.at.slice_bounds-block-end c).After-recover).0) (recovered-is (goal.at.slice_bounds-block-end c).After-recover).1
+    block_room c.args.kind c.args.rate c.args.taps c.requires.0.defined (decided_bit c.args.l c.args.items.now) (replicate 520 0) _ c.in_ok-size.size (done-is (goal.at.slice_bounds-block-end c).In_ok-size (recovered-is (goal.at.slice_bounds-block-end c).After-recover).0) (recovered-is (goal.at.slice_bounds-block-end c).After-recover).1
 
 pub slice_bounds-scramble-end : goal.slice_bounds-scramble-end
 slice_bounds-scramble-end c =
-    sym (block-length c.args.kind c.args.rate c.args.taps c.requires.0.defined (decided_bit c.args.l c.args.items.now) (replicate 520 0) _ c.in-Done.size (done-is (goal.at.slice_bounds-scramble-end c).In-Done (recovered-is (goal.at.slice_bounds-scramble-end c).After-recover).0) (recovered-is (goal.at.slice_bounds-scramble-end c).After-recover).1)
+    sym (block-length c.args.kind c.args.rate c.args.taps c.requires.0.defined (decided_bit c.args.l c.args.items.now) (replicate 520 0) _ c.in_ok-size.size (done-is (goal.at.slice_bounds-scramble-end c).In_ok-size (recovered-is (goal.at.slice_bounds-scramble-end c).After-recover).0) (recovered-is (goal.at.slice_bounds-scramble-end c).After-recover).1)
 
 pub scramble-requires : goal.scramble-requires
 scramble-requires c =
-    omega (arith, block-length c.args.kind c.args.rate c.args.taps c.requires.0.defined (decided_bit c.args.l c.args.items.now) (replicate 520 0) _ c.in-Done.size (done-is (goal.at.scramble-requires c).In-Done (recovered-is (goal.at.scramble-requires c).After-recover).0) (recovered-is (goal.at.scramble-requires c).After-recover).1, block_size c.args.kind c.args.rate c.args.taps c.requires.0.defined (decided_bit c.args.l c.args.items.now) (replicate 520 0) _ c.in-Done.size (done-is (goal.at.scramble-requires c).In-Done (recovered-is (goal.at.scramble-requires c).After-recover).0) (recovered-is (goal.at.scramble-requires c).After-recover).1, c.requires.2)
+    omega (arith, block-length c.args.kind c.args.rate c.args.taps c.requires.0.defined (decided_bit c.args.l c.args.items.now) (replicate 520 0) _ c.in_ok-size.size (done-is (goal.at.scramble-requires c).In_ok-size (recovered-is (goal.at.scramble-requires c).After-recover).0) (recovered-is (goal.at.scramble-requires c).After-recover).1, block_size c.args.kind c.args.rate c.args.taps c.requires.0.defined (decided_bit c.args.l c.args.items.now) (replicate 520 0) _ c.in_ok-size.size (done-is (goal.at.scramble-requires c).In_ok-size (recovered-is (goal.at.scramble-requires c).After-recover).0) (recovered-is (goal.at.scramble-requires c).After-recover).1, c.requires.2)
 
-pub returns-in-Refused : goal.returns-in-Refused
-returns-in-Refused c =
-    let e = sym (recovered-is (goal.at.returns-in-Refused c).After-recover).0 ∙ ap answer c.in-Refused.is in
-    let law = sym (block_refused c.args.kind c.args.rate c.args.taps c.requires.0.defined (decided_bit c.args.l c.args.items.now) (replicate 520 0) c.args.out.now c.in-Refused.r e) in
+pub returns-in_err-size : goal.returns-in_err-size
+returns-in_err-size c =
+    let e = sym (recovered-is (goal.at.returns-in_err-size c).After-recover).0 ∙ ap answer c.in_err-size.was in
+    let law = sym (block_refused c.args.kind c.args.rate c.args.taps c.requires.0.defined (decided_bit c.args.l c.args.items.now) (replicate 520 0) c.args.out.now c.in_err-size.field-0.0 e) in
+    let p = err_from_is_err_and c.from_residual.result c.from_residual.ensures.1 in
     record {
-      answer = ap (λ (q : Outcome ℕ (List ℕ)). q.report) law;
+      answer = rw (p.1, p.2) (ap (λ (q : Outcome ℕ (List ℕ)). q.report) law);
       bytes = ap (λ (q : Outcome ℕ (List ℕ)). q.out) law;
     }
 
-pub returns-in-Done : goal.returns-in-Done
-returns-in-Done c =
+pub returns : goal.returns
+returns c =
     record {
-      answer = block-report c.args.kind c.args.rate c.args.taps c.requires.0.defined (decided_bit c.args.l c.args.items.now) (replicate 520 0) _ c.in-Done.size (done-is (goal.at.returns-in-Done c).In-Done (recovered-is (goal.at.returns-in-Done c).After-recover).0) (recovered-is (goal.at.returns-in-Done c).After-recover).1 c.args.out.now;
-      bytes = c.scramble.ensures ∙ block_out c.args.kind c.args.rate c.args.taps c.requires.0.defined (decided_bit c.args.l c.args.items.now) (replicate 520 0) _ c.in-Done.size (done-is (goal.at.returns-in-Done c).In-Done (recovered-is (goal.at.returns-in-Done c).After-recover).0) (recovered-is (goal.at.returns-in-Done c).After-recover).1 c.args.out.now;
+      answer = block-report c.args.kind c.args.rate c.args.taps c.requires.0.defined (decided_bit c.args.l c.args.items.now) (replicate 520 0) _ c.in_ok-size.size (done-is (goal.at.returns c).In_ok-size (recovered-is (goal.at.returns c).After-recover).0) (recovered-is (goal.at.returns c).After-recover).1 c.args.out.now;
+      bytes = c.scramble.ensures ∙ block_out c.args.kind c.args.rate c.args.taps c.requires.0.defined (decided_bit c.args.l c.args.items.now) (replicate 520 0) _ c.in_ok-size.size (done-is (goal.at.returns c).In_ok-size (recovered-is (goal.at.returns c).After-recover).0) (recovered-is (goal.at.returns c).After-recover).1 c.args.out.now;
     }

@@ -29,13 +29,13 @@ returns-then-not-is_writable c =
       bytes = simp (version, mode);
     }
 
-pub put_card-requires : goal.put_card-requires
-put_card-requires c =
+pub invariant_of-put : goal.invariant_of-put
+invariant_of-put c =
     let version = sym c.is_versioned.ensures ∙ c.if-not-is_versioned.false in
     let mode = sym c.is_writable.ensures ∙ c.if-not-is_writable.false in
     let d = c.args.c in
     let (is, taps) = both (defined d) (ltb d.taps (2 ^ 11)) mode in
-    writable-fits d version is (ltb-true d.taps (2 ^ 11) taps)
+    record { fits = writable-fits d version is (ltb-true d.taps (2 ^ 11) taps); }
 
 pub returns : goal.returns
 unfolding write_card put_card
@@ -43,6 +43,6 @@ returns c =
     let version = sym c.is_versioned.ensures ∙ c.if-not-is_versioned.false in
     let mode = sym c.is_writable.ensures ∙ c.if-not-is_writable.false in
     record {
-      answer = simp (version, mode) c.put_card.ensures.answer;
-      bytes = simp (version, mode) c.put_card.ensures.bytes;
+      answer = simp (version, mode) c.put.ensures.answer;
+      bytes = simp (version, mode) c.put.ensures.bytes;
     }

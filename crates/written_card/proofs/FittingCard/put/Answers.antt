@@ -1,28 +1,29 @@
--- `written_card::put_card` meets its contract: each return is a row of its table. Assumes nothing.
+-- `written_card::FittingCard::put` meets its contract: each return is a row of its table. Assumes nothing.
 use mathlib.Core.Path.{◌≡◌, sym, ap, ◌∙◌}
 use mathlib.Core.Bool.{Bool}
+use Prim.Native.Nat.{ℕ}
 use lib.Dec.{ltb}
 use lib.ListN.{length}
 use borrow.Author.Tests.{ltb-false, lt-ltb, le-ltb}
 use Rattle.refusal.specs.declared.Refusal.TheVariants.{Room}
-use Rattle.refusal.specs.declared.Answer.TheVariants.{Refused}
+use Rattle.std.specs.Prelude.{Err}
 use Rattle.refusal.specs.Report.{answer}
 use Rattle.card.specs.Card.{card_bytes}
 use Rattle.written_card.specs.Loops.Fields.{put_card}
 use Rattle.written_card.proofs.RowLaws.{put-short, said}
-use Rattle.written_card.proofs.put_card.Goals as goal
-use Rattle.written_card.proofs.put_card.Goals.{After-card_bytes-bytes}
+use Rattle.written_card.proofs.FittingCard.put.Goals as goal
+use Rattle.written_card.proofs.FittingCard.put.Goals.{After-card_bytes-bytes}
 
 -- the test of row 5 with the length that the version has
 short-is : (c : After-card_bytes-bytes) (b : Bool) → ltb (length c.args.out.now) c.card_bytes-bytes.result ≡ b
-    → ltb (length c.args.out.now) (card_bytes c.args.c.version) ≡ b
+    → ltb (length c.args.out.now) (card_bytes c.args.self.now.card.version) ≡ b
 short-is c b e = rw (← c.card_bytes-bytes.ensures) e
 
 pub returns-then-short : goal.returns-then-short
 returns-then-short c =
     let law = put-short _ _ (short-is (goal.at.returns-then-short c).After-card_bytes-bytes _ (lt-ltb _ _ c.if-short.true)) in
     record {
-      answer = ap (λ n. answer (Refused (Room n))) c.card_bytes-bytes.ensures ∙ sym (ap (λ o. o.report) law);
+      answer = ap (λ n. answer {A = ℕ} (Err (Room n))) c.card_bytes-bytes.ensures ∙ sym (ap (λ o. o.report) law);
       bytes = sym (ap (λ o. o.out) law);
     }
 
@@ -36,11 +37,11 @@ returns-then-unsaid c =
       bytes = simp (room, unsaid);
     }
 
-pub store_card-requires : goal.store_card-requires
-store_card-requires c =
-    let room = short-is (goal.at.store_card-requires c).After-card_bytes-bytes _ (le-ltb _ _ c.if-short.false) in
+pub store-requires : goal.store-requires
+store-requires c =
+    let room = short-is (goal.at.store-requires c).After-card_bytes-bytes _ (le-ltb _ _ c.if-short.false) in
     let says = sym c.is_unsaid-unsaid.ensures ∙ c.if-unsaid.false in
-    (c.requires, said c.args.c says, ltb-false _ _ room)
+    (said c.args.self.now.card says, ltb-false _ _ room)
 
 pub returns : goal.returns
 unfolding put_card
@@ -49,5 +50,5 @@ returns c =
     let says = sym c.is_unsaid-unsaid.ensures ∙ c.if-unsaid.false in
     record {
       answer = rw c.card_bytes-bytes.ensures (simp (room, says));
-      bytes = simp (room, says) c.store_card.ensures;
+      bytes = simp (room, says) c.store.ensures;
     }
