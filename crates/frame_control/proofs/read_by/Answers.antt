@@ -53,7 +53,7 @@ returns c =
     let long = eq-eqb _ _ (rw c.item_count.ensures at c.if-items-item_count.false) in
     let room = le-ltb _ _ c.if-out-lt16.false in
     let legal = le-ltb _ _ (rw c.first_above-bad.ensures at c.if-bad-items.false) in
-    let read = sym (read-decided a.carriers a.offsets.now a.taps a.items.now a.out.now _ (ap not long, (room, (legal, tt))) c.decide-decided.ensures) in
+    let read = sym (read-decided a.symbols.now.carriers a.symbols.now.offsets.now a.taps a.items.now a.out.now _ (ap not long, (room, (legal, tt))) c.decide-decided.ensures) in
     record {
       answer = c.recover.ensures.answer ∙ ap (λ o. o.report) read;
       word = c.recover.ensures.bytes ∙ ap (λ o. o.out) read;

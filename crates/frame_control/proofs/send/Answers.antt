@@ -12,10 +12,10 @@ overflow_cast-c c =
     let e = sym c.served_card.ensures ∙ ap answer c.in_ok-c.was in
     omega (arith, (gate-served 0 0 c.args.card.now _ e).taps-lt)
 
-pub send_on-requires : goal.send_on-requires
-send_on-requires c =
+pub invariant_of-band : goal.invariant_of-band
+invariant_of-band c =
     let e = sym c.served_card.ensures ∙ ap answer c.in_ok-c.was in
-    (gate-served 0 0 c.args.card.now _ e).band-lt
+    record { defined = (gate-served 0 0 c.args.card.now _ e).band-lt }
 
 pub returns-in_err-c : goal.returns-in_err-c
 returns-in_err-c c =
@@ -34,6 +34,6 @@ returns c =
     let e = sym c.served_card.ensures ∙ ap answer c.in_ok-c.was in
     let passed = sym (send-passed a.card.now a.word.now a.out.now _ e) in
     record {
-      answer = c.send_on.ensures.answer ∙ ap (λ o. o.report) passed;
-      items = c.send_on.ensures.items ∙ ap (λ o. o.out) passed;
+      answer = (rw (c.on.ensures.0, c.on.ensures.1) at c.send_by.ensures.answer) ∙ ap (λ o. o.report) passed;
+      items = (rw (c.on.ensures.0, c.on.ensures.1) at c.send_by.ensures.items) ∙ ap (λ o. o.out) passed;
     }
