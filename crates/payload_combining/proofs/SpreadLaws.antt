@@ -28,21 +28,21 @@ use Rattle.payload_combining.specs.Loops.Groups.{slot_on, group_on}
 abbrev pub Spread : ℕ → ℕ → List ℕ → List ℕ → List ℕ → Type 0
 Spread bits n order items group = (p e : ℕ) → p < n → e < bits → get_or group (get_or order p 0 * bits + e) 0 ≡ get_or items (p * bits + e) 0
 
-pub spread-next : (bits p from to n : ℕ) (order items group after : List ℕ) → Permutes n (λ p. get_or order p 0) → p < n
-    → from ≡ p * bits → to ≡ get_or order p 0 * bits → Copied bits items from to group after
+pub spread-next : (bits p address n : ℕ) (order items group after : List ℕ) → Permutes n (λ p. get_or order p 0) → p < n
+    → address ≡ get_or order p 0 → Copied bits items (p * bits) (address * bits) group after
     → Spread bits p order items group → Spread bits (p + 1) order items after
-spread-next bits p from to n order items group after P h f t c w q e l b =
+spread-next bits p address n order items group after P h a c w q e l b =
     lt-cases q p
     (λ k.
-    lt-cases (get_or order q 0) (get_or order p 0)
-    (λ m. c.under _ (omega (arith, row_within (get_or order q 0) bits (get_or order p 0) m)) ∙ w q e k b)
+    lt-cases (get_or order q 0) address
+    (λ m. c.under _ (omega (arith, row_within (get_or order q 0) bits address m)) ∙ w q e k b)
     (λ m.
-    lt-cases (get_or order p 0) (get_or order q 0)
-    (λ o. c.over _ (omega (arith, row_within (get_or order p 0) bits (get_or order q 0) o)) ∙ w q e k b)
-    (λ o. absurd (let z : q ≡ p = P.apart q p (omega arith) h (omega arith) in omega arith))))
+    lt-cases address (get_or order q 0)
+    (λ o. c.over _ (omega (arith, row_within address bits (get_or order q 0) o)) ∙ w q e k b)
+    (λ o. absurd (let z : q ≡ p = P.apart q p (omega arith) h (omega (arith, a)) in omega arith))))
     (λ k.
     let same : q ≡ p = omega arith in
-    rw same (ap (λ (x : ℕ). get_or after (x + e) 0) (sym t) ∙ c.put e b ∙ ap (λ (x : ℕ). get_or items (x + e) 0) f))
+    rw same (ap (λ (x : ℕ). get_or after (x * bits + e) 0) (sym a) ∙ c.put e b))
 
 -- ---- the votes of a slot
 

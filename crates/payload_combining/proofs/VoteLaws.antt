@@ -1,17 +1,19 @@
 -- Laws of the votes by groups, slots and symbols, and what the counters decide. Assumes nothing.
 use mathlib.Core.Path.{◌≡◌, refl, sym, ap, ap₂, ◌∙◌}
 use mathlib.Core.Bool.{Bool, ◌&&◌}
-use mathlib.Core.List.{List, ◌++◌}
+use mathlib.Core.List.{List, ◌++◌, map}
 use Prim.Native.Nat.{ℕ, ◌+◌, ◌-◌, ◌*◌, ◌%◌, ◌<◌, ◌≤◌}
 use native.Mathlib.Nat.{zero-add, zero-mul}
 use native.Mathlib.Omega.{arith}
 use lib.Dec.{eqb}
-use lib.ListN.{length, get_or, take, drop, get_or-append}
-use lib.Seq.{get_or-take, get_or-drop, drop_at}
+use lib.ListN.{length, get_or, take, drop, length-replicate}
+use lib.Seq.{get_or-take, get_or-drop}
+use Rattle.std.proofs.lemmas.List.{get_or-replicate, get_or-map}
+use Rattle.std.proofs.Math.ListN.{length-map}
 use borrow.Author.Tests.{lt-ltb, le-ltb}
-use Rattle.bits.specs.Lists.{tabulate, written}
+use Rattle.bits.specs.Lists.{written}
 use Rattle.bits.proofs.NumberLaws.{row_next}
-use Rattle.bits.proofs.ListLaws.{length-tabulate, get_or-tabulate, tabulate-ext, written-ext}
+use Rattle.bits.proofs.ListLaws.{tabulate-of, tabulate-ext}
 use Rattle.bits.proofs.SumLaws.{count_none}
 use Rattle.votes.specs.Votes.{carries as carries_on, votes, majority, decided}
 use Rattle.votes.specs.Loops.Counters.{middle, counted, Adds}
@@ -83,12 +85,12 @@ module _ (L : Layout) (z : Slotted L) (r : List ℕ) where
   all-few b v h = omega (arith, votes-le (items L) (carries L) r b v, copies-most L z.laid.sound b h z.laid.small)
 
   middle-at : (b : ℕ) → b < L.coded → get_or (middles L) b 0 ≡ middle
-  middle-at b h = get_or-tabulate L.coded (λ _. middle) b 0 h
+  middle-at b h = get_or-replicate L.coded b middle 0 h
 
   -- before any vote
   pub none-counted : (now : List ℕ) → now ≡ middles L → now ≡ counted L.coded (0 * symbol_items L) (carries L) r (middles L)
   none-counted now e =
-      e ∙ middle-counted L.coded (carries L) r (middles L) (length-tabulate L.coded _) middle-at
+      e ∙ middle-counted L.coded (carries L) r (middles L) (length-replicate L.coded middle) middle-at
       ∙ ap (λ (n : ℕ). counted L.coded n (carries L) r (middles L)) (sym (zero-mul (symbol_items L)))
 
   -- what a counter tells at the end
@@ -129,20 +131,14 @@ module _ (L : Layout) (z : Slotted L) (r : List ℕ) where
               unused-votes L z y n m e (omega arith) (drop n r) b v,
             )
 
-  -- the counters, in the buffer, are settled
-  pub settled-all : (out mid now after last : List ℕ) → mid ≡ written L.coded (λ _. middle) out
-      → now ≡ counted L.coded (items L) (carries L) r (middles L) → after ≡ now ++ drop L.coded mid
-      → last ≡ written L.coded (λ b. majority middle (get_or after b 0)) after → last ≡ written L.coded (decided (items L) (carries L) r) out
+  -- the counters, settled
+  pub settled-all : (out now : List ℕ) → now ≡ counted L.coded (items L) (carries L) r (middles L)
+      → map (majority middle) now ++ drop L.coded out ≡ written L.coded (decided (items L) (carries L) r) out
   unfolding written
-  settled-all out mid now after last m h a e =
-      e
-      ∙ written-ext L.coded _ _ after
-      (λ b l.
-      ap (λ (x : ℕ). majority middle x) (ap (λ (xs : List ℕ). get_or xs b 0) a ∙ get_or-append now (drop L.coded mid) 0 b (omega (arith, long)))
-      ∙ votes-decide now h b l)
-      ∙ ap (λ (xs : List ℕ). tabulate L.coded (decided (items L) (carries L) r) ++ xs)
-      (ap (drop L.coded) a ∙ drop_at now (drop L.coded mid) L.coded long ∙ ap (drop L.coded) m
-      ∙ drop_at (tabulate L.coded (λ _. middle)) (drop L.coded out) L.coded (length-tabulate L.coded _))
+  settled-all out now h =
+      ap (λ (xs : List ℕ). xs ++ drop L.coded out)
+      (tabulate-of L.coded _ 0 (map (majority middle) now) (length-map now (majority middle) ∙ long)
+      (λ b l. get_or-map (majority middle) now b 0 0 (omega (arith, long)) ∙ votes-decide now h b l))
     where
       long : length now ≡ L.coded
       long = counted-long L.coded (items L) (carries L) r (middles L) now h

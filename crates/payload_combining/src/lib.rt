@@ -3,7 +3,7 @@
 // Internal: nothing here is a public entry, and callers show what a function requires.
 #![tactic(auto)]
 
-ghost use Rattle.std.specs.Prelude.{◌≡◌, ℕ, ◌+◌, ◌*◌, ◌<◌, ◌≤◌, length, get_or};
+ghost use Rattle.std.specs.Prelude.{◌≡◌, ℕ, ◌+◌, ◌*◌, ◌<◌, ◌≤◌, length, get_or, map};
 ghost use Rattle.bits.specs.Lists.{written};
 ghost use Rattle.bits.specs.Permutations.{Permutes};
 ghost use Rattle.votes.specs.Votes.{majority as majority_of, decided};
@@ -29,6 +29,7 @@ fn of_one(item: u8) -> u8
 }
 
 // What a bit's two copies decide. By sums and not by cases, which the loop below runs faster.
+#[tactic(auto, unfolding(crate::specs::Loops::Copies::of_two))]
 fn of_two(a: u8, b: u8) -> u8
     ensures { result ≡ of_two a b }
 {
@@ -43,10 +44,8 @@ fn decide_ones(items: &[u8], out: &mut [u8])
     ensures { out.new ≡ written (length items.now)
         (λ b. of_one (get_or items.now b 0)) out.old }
 {
-    let mut b: usize = 0;
-    while b < items.len() {
-        out[b] = of_one(items[b]);
-        b += 1;
+    for (b, &item) in items.iter().enumerate() {
+        out[b] = of_one(item);
     }
 }
 
@@ -56,10 +55,8 @@ fn decide_twos(items: &[u8], pad: &[u8], out: &mut [u8])
     ensures { out.new ≡ written (length pad.now)
         (λ b. of_two (get_or items.now b 0) (get_or pad.now b 0)) out.old }
 {
-    let mut b: usize = 0;
-    while b < pad.len() {
-        out[b] = of_two(items[b], pad[b]);
-        b += 1;
+    for (b, &again) in pad.iter().enumerate() {
+        out[b] = of_two(items[b], again);
     }
 }
 
@@ -79,18 +76,26 @@ fn decide_once(l: Layout, items: &[u8], out: &mut [u8])
 const SHORTEST_RUN: usize = 8;
 
 // The carriers of `items`, put back where the given order takes them from.
+fn spread_by<const BITS: usize>(order: &[u16], items: &[u8], group: &mut [u8])
+    requires room { (length order.now * BITS ≤ length items.now) × (length order.now * BITS ≤ length group.old) }
+    requires permutes { Permutes (length order.now) (λ p. get_or order.now p 0) }
+    ensures { (p e : ℕ) → p < length order.now → e < BITS → get_or group.new (get_or order.now p 0 * BITS + e) 0 ≡ get_or items.now (p * BITS + e) 0 }
+{
+    for (p, &address) in order.iter().enumerate() {
+        payload_copying::copy_carrier::<BITS>(items, p * BITS, group, usize::from(address) * BITS);
+    }
+}
+
+// The same, of carriers with so many bits each.
 fn spread(bits: usize, order: &[u16], items: &[u8], group: &mut [u8])
     requires carrier_bits { (CarrierBits bits) × (length order.now ≤ 410) × (length order.now * bits ≤ length items.now) × (length order.now * bits ≤ length group.old) }
     requires permutes { Permutes (length order.now) (λ p. get_or order.now p 0) }
     ensures { (p e : ℕ) → p < length order.now → e < bits → get_or group.new (get_or order.now p 0 * bits + e) 0 ≡ get_or items.now (p * bits + e) 0 }
 {
-    let mut from: usize = 0;
-    let mut p: usize = 0;
-    while p < order.len() {
-        let to = payload_copying::wide(order[p]) * bits;
-        payload_copying::copy_carrier(bits, items, from, group, to);
-        from += bits;
-        p += 1;
+    match bits {
+        1 => spread_by::<1>(order, items, group),
+        2 => spread_by::<2>(order, items, group),
+        _ => spread_by::<4>(order, items, group),
     }
 }
 
@@ -133,6 +138,7 @@ fn count_wide(
 }
 
 // The coded bit that bit x of the padded data of copy k is.
+#[tactic(auto, unfolding(payload_layout::specs::Items::padded))]
 fn padded_bit(l: Layout, k: usize, x: usize) -> usize
     requires { (Slotted l) × (k < l.copies) × (x < l.coded + l.pad) }
     ensures value { result ≡ padded l k x }
@@ -152,12 +158,10 @@ fn count_narrow(l: Layout, k: usize, g: usize, table: &[u16], items: &[u8], coun
 {
     let size = l.interleavers * l.span;
     let first = k * size;
-    let from = g * size;
-    let mut p: usize = 0;
-    while p < size {
-        let at = padded_bit(l, k, from + payload_copying::wide(table[first + p]));
+    let end = first + size;
+    for (p, &address) in table[first..end].iter().enumerate() {
+        let at = padded_bit(l, k, g * size + usize::from(address));
         counters[at] = votes::voted(counters[at], items[p]);
-        p += 1;
     }
 }
 
@@ -220,7 +224,7 @@ fn count_symbols(l: Layout, table: &[u16], items: &[u8], counters: &mut [u8])
     ensures { counters.new ≡ counted l.coded (items_of l) (carries l) items.now (middles l) }
 {
     let symbols = l.symbols;
-    let mut group = payload_copying::no_group();
+    let mut group = [0u8; 816];
     let mut s = payload_copying::first_slot(l, 0);
     let mut y: usize = 0;
     while y < symbols {
@@ -236,15 +240,12 @@ fn settled(counter: u8) -> u8
     votes::majority(MIDDLE, counter)
 }
 
-// Each of `count` counters in place becomes what it decides.
-fn settle(count: usize, out: &mut [u8])
-    requires { count ≤ length out.old }
-    ensures { out.new ≡ written count (λ b. majority_of middle (get_or out.old b 0)) out.old }
+// Each counter becomes what it decides.
+fn settle(counters: &mut [u8])
+    ensures { counters.new ≡ map (majority_of middle) counters.old }
 {
-    let mut i: usize = 0;
-    while i < count {
-        out[i] = settled(out[i]);
-        i += 1;
+    for counter in counters.iter_mut() {
+        *counter = settled(*counter);
     }
 }
 
@@ -253,11 +254,11 @@ fn decide_copies(l: Layout, items: &[u8], out: &mut [u8])
     requires { (Slotted l) × (length items.now ≡ items_of l) × (l.coded ≤ length out.old) }
     ensures { out.new ≡ written l.coded (decided (items_of l) (carries l) items.now) out.old }
 {
-    let n = l.coded;
     let table = payload_copying::table_of(l);
-    bits::fill(n, MIDDLE, out);
-    count_symbols(l, &table, items, &mut out[..n]);
-    settle(n, out);
+    let counters = &mut out[..l.coded];
+    counters.fill(MIDDLE);
+    count_symbols(l, &table, items, counters);
+    settle(counters);
 }
 
 // Each coded bit by strict majority of its copies, at the start of `out`: 0, 1, or 2 where there is none.

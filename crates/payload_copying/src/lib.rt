@@ -14,19 +14,12 @@ use payload_layout::Layout;
 
 // ---- the addresses
 
-// Room for the addresses.
-fn no_addresses() -> [u16; 410]
-    ensures { result ≡ replicate 410 0 }
-{
-    [0u16; 410]
-}
-
 // The addresses of all copies' interleavers.
 pub fn table_of(l: Layout) -> [u16; 410]
     requires { Slotted l }
     ensures { result ≡ written (used_carriers l) (address l) (replicate 410 0) }
 {
-    let mut table = no_addresses();
+    let mut table = [0u16; 410];
     address_interleaver::fill_table(
         l.interleavers,
         l.span,
@@ -80,54 +73,36 @@ pub fn next_slot(l: Layout, s: Slot) -> Slot
 
 // ---- sending
 
-// The bits of a carrier, copied.
-pub fn copy_carrier(bits: usize, src: &[u8], from: usize, out: &mut [u8], to: usize)
-    requires { (CarrierBits bits) × (from + bits ≤ length src.now) × (to + bits ≤ length out.old) }
-    ensures { Copied bits src.now from to out.old out.new }
+// A carrier's bits, copied. Their number is a constant, so that the copy is one move.
+pub fn copy_carrier<const BITS: usize>(src: &[u8], from: usize, out: &mut [u8], to: usize)
+    requires { (from + BITS ≤ length src.now) × (to + BITS ≤ length out.old) }
+    ensures { Copied BITS src.now from to out.old out.new }
 {
-    if bits == 4 {
-        out[to] = src[from];
-        out[to + 1] = src[from + 1];
-        out[to + 2] = src[from + 2];
-        out[to + 3] = src[from + 3];
-        return;
-    }
-    if bits == 2 {
-        out[to] = src[from];
-        out[to + 1] = src[from + 1];
-        return;
-    }
-    out[to] = src[from];
-}
-
-// An address as an index.
-pub fn wide(x: u16) -> usize
-    ensures { result ≡ x }
-{
-    x as usize
+    out[to..to + BITS].copy_from_slice(&src[from..from + BITS]);
 }
 
 // The carriers of `src` in the given order, at the start of `out`.
+fn gather_by<const BITS: usize>(order: &[u16], src: &[u8], out: &mut [u8])
+    requires room { length order.now * BITS ≤ length out.old }
+    requires by_index { (p : ℕ) → p < length order.now → get_or order.now p 0 * BITS + BITS ≤ length src.now }
+    ensures { out.new ≡ written (length order.now * BITS) (taken BITS order.now src.now) out.old }
+{
+    for (p, &address) in order.iter().enumerate() {
+        copy_carrier::<BITS>(src, usize::from(address) * BITS, out, p * BITS);
+    }
+}
+
+// The same, of carriers with so many bits each.
 fn gather(bits: usize, order: &[u16], src: &[u8], out: &mut [u8])
     requires carrier_bits { (CarrierBits bits) × (length order.now ≤ 410) × (length order.now * bits ≤ length out.old) }
     requires by_index { (p : ℕ) → p < length order.now → get_or order.now p 0 * bits + bits ≤ length src.now }
     ensures { out.new ≡ written (length order.now * bits) (taken bits order.now src.now) out.old }
 {
-    let mut to: usize = 0;
-    let mut p: usize = 0;
-    while p < order.len() {
-        let from = wide(order[p]) * bits;
-        copy_carrier(bits, src, from, out, to);
-        to += bits;
-        p += 1;
+    match bits {
+        1 => gather_by::<1>(order, src, out),
+        2 => gather_by::<2>(order, src, out),
+        _ => gather_by::<4>(order, src, out),
     }
-}
-
-// Room for a group.
-pub fn no_group() -> [u8; 816]
-    ensures { result ≡ replicate 816 0 }
-{
-    [0u8; 816]
 }
 
 // A copy's last group: the rest of the data, and its pad.
@@ -135,7 +110,7 @@ fn last_group(from: usize, tail: usize, pad: usize, coded: &[u8]) -> [u8; 816]
     requires { (from ≤ length coded.now) × (tail + pad ≤ length coded.now) × (length coded.now < 65536) × (length coded.now + pad ≤ from + 816) }
     ensures { (length result ≡ 816) × (LastGroup from tail pad coded.now result) }
 {
-    let mut group = no_group();
+    let mut group = [0u8; 816];
     bits::put(&coded[from..], &mut group);
     let rest = coded.len() - from;
     let end = tail + pad;

@@ -5,8 +5,7 @@ use native.Mathlib.Omega.{arith}
 use native.Mathlib.Nat.{zero-mul}
 use lib.ListN.{length, length-replicate}
 use borrow.Author.Rules.{rules}
-use Rattle.bits.proofs.ListLaws.{length-tabulate}
-use Rattle.votes.specs.Loops.Counters.{counted}
+use Rattle.votes.specs.Loops.Counters.{middle, counted}
 use Rattle.votes.proofs.CounterLaws.{counted-long}
 use Rattle.payload_layout.specs.Layouts.{symbol_items}
 use Rattle.payload_layout.specs.Items.{carries}
@@ -28,8 +27,8 @@ loop-y-init c =
       search rules,
       c.first_slot-s.ensures.0,
       c.first_slot-s.ensures.1 ∙ zero-mul L.symbols ∙ sym (zero-mul L.copies),
-      ap length c.no_group-group.ensures ∙ length-replicate {A = ℕ} 816 0,
-      ap length c.requires.3 ∙ length-tabulate L.coded _,
+      length-replicate {A = ℕ} 816 0,
+      ap length c.requires.3 ∙ length-replicate L.coded middle,
       none-counted L c.requires.0 c.args.items.now _ c.requires.3,
       refl,
     )
@@ -64,7 +63,7 @@ loop-y-preserved c = (
 
 pub shape_of-counters : goal.shape_of-counters
 shape_of-counters c =
-    omega (arith, c.loop-y.invariant.4, ap length c.requires.3 ∙ length-tabulate c.args.l.coded _)
+    omega (arith, c.loop-y.invariant.4, ap length c.requires.3 ∙ length-replicate c.args.l.coded middle)
 
 pub returns : goal.returns
 returns c =
