@@ -8,14 +8,14 @@ ghost use Rattle.bits.specs.Lists.{written};
 ghost use Rattle.bits.specs.Permutations.{Permutes};
 ghost use Rattle.votes.specs.Votes.{majority as majority_of, decided};
 ghost use Rattle.votes.specs.Loops.Counters.{middle, counted, Adds};
-ghost use Rattle.payload_layout.specs.Layouts.{items as items_of, symbol_items, group_bits};
+ghost use Rattle.payload_layout.specs.Layouts.{items as items_of, group_bits};
 ghost use Rattle.payload_layout.specs.Loops.Bounds.{CarrierBits, Laid};
 ghost use Rattle.payload_layout.specs.Items.{padded, carries};
-ghost use Rattle.payload_copying.specs.Loops.Slots.{Slotted, Addresses, slot_no, Standing};
+ghost use Rattle.payload_copying.specs.Loops.Slots.{Slotted, Carries};
 ghost use Rattle.payload_combining.specs.Loops.Copies.{of_one, of_two};
 ghost use Rattle.payload_combining.specs.Loops.Groups.{slot_on, group_on, middles};
 
-use payload_copying::Slot;
+use payload_copying::{Slot, Slots};
 use payload_layout::Layout;
 use votes::MIDDLE;
 
@@ -99,137 +99,78 @@ fn spread(bits: usize, order: &[u16], items: &[u8], group: &mut [u8])
     }
 }
 
-// The votes of group g of copy k, in order: a run of the coded bits, and in the last group a run of pads after it.
-fn count_group(l: Layout, k: usize, g: usize, group: &[u8], counters: &mut [u8])
-    requires { (Slotted l) × (k < l.copies) × (g < l.symbols) × (length group.now ≡ 816) × (length counters.old ≡ l.coded) }
-    ensures { Adds l.coded 0 (group_bits l) (group_on l k g) group.now counters.old counters.new }
+// The votes of a slot's group, in order: a run of the coded bits, and in the last group a run of pads after it.
+fn count_group(slots: &Slots, slot: Slot, group: &[u8; 816], counters: &mut [u8])
+    requires { (Carries slots.now.layout slot) × (length counters.old ≡ slots.now.layout.coded) }
+    ensures { Adds slots.now.layout.coded 0 (group_bits slots.now.layout) (group_on slots.now.layout slot.copy slot.group) group.now counters.old counters.new }
 {
-    let group_bits = l.interleavers * l.span * l.bits;
-    let from = g * group_bits;
-    let coded = l.coded;
+    let Layout { coded, pad, .. } = slots.layout;
+    let group_bits = slots.group_bits();
+    let from = slot.group * group_bits;
     if from + group_bits <= coded {
         votes::count_run(0, from, group_bits, group, counters);
         return;
     }
     let rest = coded - from;
     votes::count_run(0, from, rest, group, counters);
-    votes::count_run(rest, k * l.pad, group_bits - rest, group, counters);
+    votes::count_run(rest, slot.copy * pad, group_bits - rest, group, counters);
 }
 
-// The votes of a slot in which group g of copy k stands: its carriers are put back in order.
-fn count_wide(
-    l: Layout,
-    k: usize,
-    g: usize,
-    table: &[u16],
-    items: &[u8],
-    group: &mut [u8],
-    counters: &mut [u8],
-)
-    requires slotted { (Slotted l) × (k < l.copies) × (g < l.symbols) × (Addresses l table.now) × (length items.now ≡ group_bits l) }
-    requires group_len { (length group.old ≡ 816) × (length counters.old ≡ l.coded) }
-    ensures { counters.new ≡ counted l.coded (group_bits l) (slot_on l k g) items.now counters.old }
+// The votes of a slot, whose carriers are put back in order.
+fn count_wide(slots: &Slots, slot: Slot, items: &[u8], group: &mut [u8; 816], counters: &mut [u8])
+    requires { (Carries slots.now.layout slot) × (length items.now ≡ group_bits slots.now.layout) × (length counters.old ≡ slots.now.layout.coded) }
+    ensures { counters.new ≡ counted slots.now.layout.coded (group_bits slots.now.layout) (slot_on slots.now.layout slot.copy slot.group) items.now counters.old }
 {
-    let size = l.interleavers * l.span;
-    let first = k * size;
-    let end = first + size;
-    spread(l.bits, &table[first..end], items, group);
-    count_group(l, k, g, group, counters);
+    spread(slots.layout.bits, slots.order(slot.copy), items, group);
+    count_group(slots, slot, group, counters);
 }
 
 // The coded bit that bit x of the padded data of copy k is.
 #[tactic(auto, unfolding(payload_layout::specs::Items::padded))]
-fn padded_bit(l: Layout, k: usize, x: usize) -> usize
-    requires { (Slotted l) × (k < l.copies) × (x < l.coded + l.pad) }
-    ensures value { result ≡ padded l k x }
-    ensures within { result < l.coded }
+fn padded_bit(slots: &Slots, k: usize, x: usize) -> usize
+    requires { (k < slots.now.layout.copies) × (x < slots.now.layout.coded + slots.now.layout.pad) }
+    ensures value { result ≡ padded slots.now.layout k x }
+    ensures within { result < slots.now.layout.coded }
 {
-    if x < l.coded {
-        return x;
-    }
-    k * l.pad + (x - l.coded)
+    let Layout { coded, pad, .. } = slots.layout;
+    if x < coded { x } else { k * pad + (x - coded) }
 }
 
-// The votes of such a slot carrier by carrier, where each has one bit.
-fn count_narrow(l: Layout, k: usize, g: usize, table: &[u16], items: &[u8], counters: &mut [u8])
-    requires slotted { (Slotted l) × (l.bits ≡ 1) × (k < l.copies) × (g < l.symbols) × (Addresses l table.now) }
-    requires len { (length items.now ≡ group_bits l) × (length counters.old ≡ l.coded) }
-    ensures { counters.new ≡ counted l.coded (group_bits l) (slot_on l k g) items.now counters.old }
+// The votes of a slot carrier by carrier, where each has one bit.
+fn count_narrow(slots: &Slots, slot: Slot, items: &[u8], counters: &mut [u8])
+    requires carries { (Carries slots.now.layout slot) × (slots.now.layout.bits ≡ 1) }
+    requires len { (length items.now ≡ group_bits slots.now.layout) × (length counters.old ≡ slots.now.layout.coded) }
+    ensures { counters.new ≡ counted slots.now.layout.coded (group_bits slots.now.layout) (slot_on slots.now.layout slot.copy slot.group) items.now counters.old }
 {
-    let size = l.interleavers * l.span;
-    let first = k * size;
-    let end = first + size;
-    for (p, &address) in table[first..end].iter().enumerate() {
-        let at = padded_bit(l, k, g * size + usize::from(address));
+    let from = slot.group * slots.group_carriers();
+    for (p, &address) in slots.order(slot.copy).iter().enumerate() {
+        let at = padded_bit(slots, slot.copy, from + usize::from(address));
         counters[at] = votes::voted(counters[at], items[p]);
     }
 }
 
-// The votes of slot s. A short run would be counted item by item too, so its carriers need not be put back.
-fn count_slot(
-    l: Layout,
-    s: Slot,
-    table: &[u16],
-    items: &[u8],
-    group: &mut [u8],
-    counters: &mut [u8],
-)
-    requires slotted { (Slotted l) × (s.copy < l.copies) × (s.group < l.symbols) × (Addresses l table.now) }
-    requires len { (length items.now ≡ group_bits l) × (length group.old ≡ 816) × (length counters.old ≡ l.coded) }
-    ensures { counters.new ≡ counted l.coded (group_bits l) (slot_on l s.copy s.group) items.now counters.old }
+// The votes of a slot. A short run would be counted item by item too, so its carriers need not be put back.
+fn count_slot(slots: &Slots, slot: Slot, items: &[u8], group: &mut [u8; 816], counters: &mut [u8])
+    requires { (Carries slots.now.layout slot) × (length items.now ≡ group_bits slots.now.layout) × (length counters.old ≡ slots.now.layout.coded) }
+    ensures { counters.new ≡ counted slots.now.layout.coded (group_bits slots.now.layout) (slot_on slots.now.layout slot.copy slot.group) items.now counters.old }
 {
-    if l.bits == 1 {
-        if l.interleavers * l.span < SHORTEST_RUN {
-            count_narrow(l, s.copy, s.group, table, items, counters);
-            return;
-        }
+    if slots.layout.bits == 1 && slots.group_carriers() < SHORTEST_RUN {
+        count_narrow(slots, slot, items, counters);
+    } else {
+        count_wide(slots, slot, items, group, counters);
     }
-    count_wide(l, s.copy, s.group, table, items, group, counters);
 }
 
-// The votes of symbol y, whose first slot is given; the answer is the slot after its last. Items on unused carriers have no vote.
-fn count_symbol(
-    l: Layout,
-    y: usize,
-    first: Slot,
-    table: &[u16],
-    items: &[u8],
-    group: &mut [u8],
-    counters: &mut [u8],
-) -> Slot
-    requires slotted { (Slotted l) × (y < l.symbols) × (Standing l first) × (slot_no l first ≡ y * l.copies) × (Addresses l table.now) }
-    requires len { (length items.now ≡ items_of l) × (length group.old ≡ 816) }
-    requires counters_len { (length counters.old ≡ l.coded) × (counters.old ≡ counted l.coded (y * symbol_items l) (carries l) items.now (middles l)) }
-    ensures walked { (Standing l result) × (slot_no l result ≡ (y + 1) * l.copies) }
-    ensures voted { counters.new ≡ counted l.coded ((y + 1) * symbol_items l) (carries l) items.now (middles l) }
+// All votes, slot by slot. Items on unused carriers have none.
+fn count_slots(slots: &Slots, items: &[u8], counters: &mut [u8])
+    requires { (length items.now ≡ items_of slots.now.layout) × (counters.old ≡ middles slots.now.layout) }
+    ensures { counters.new ≡ counted slots.now.layout.coded (items_of slots.now.layout) (carries slots.now.layout) items.now (middles slots.now.layout) }
 {
-    let group_bits = l.interleavers * l.span * l.bits;
-    let copies = l.copies;
-    let mut s = first;
-    let mut j: usize = 0;
-    let mut n = y * (l.carriers * l.bits);
-    while j < copies {
-        let end = n + group_bits;
-        count_slot(l, s, table, &items[n..end], group, counters);
-        s = payload_copying::next_slot(l, s);
-        n = end;
-        j += 1;
-    }
-    s
-}
-
-// All votes, by symbol.
-fn count_symbols(l: Layout, table: &[u16], items: &[u8], counters: &mut [u8])
-    requires { (Slotted l) × (Addresses l table.now) × (length items.now ≡ items_of l) × (counters.old ≡ middles l) }
-    ensures { counters.new ≡ counted l.coded (items_of l) (carries l) items.now (middles l) }
-{
-    let symbols = l.symbols;
+    let group_bits = slots.group_bits();
     let mut group = [0u8; 816];
-    let mut s = payload_copying::first_slot(l, 0);
-    let mut y: usize = 0;
-    while y < symbols {
-        s = count_symbol(l, y, s, table, items, &mut group, counters);
-        y += 1;
+    for slot in slots.walk() {
+        let end = slot.start + group_bits;
+        count_slot(slots, slot, &items[slot.start..end], &mut group, counters);
     }
 }
 
@@ -254,10 +195,9 @@ fn decide_copies(l: Layout, items: &[u8], out: &mut [u8])
     requires { (Slotted l) × (length items.now ≡ items_of l) × (l.coded ≤ length out.old) }
     ensures { out.new ≡ written l.coded (decided (items_of l) (carries l) items.now) out.old }
 {
-    let table = payload_copying::table_of(l);
     let counters = &mut out[..l.coded];
     counters.fill(MIDDLE);
-    count_symbols(l, &table, items, counters);
+    count_slots(&Slots::of(l), items, counters);
     settle(counters);
 }
 

@@ -5,4 +5,4 @@ use Rattle.payload_combining.specs.Loops.Groups.{slot_on}
 use Rattle.payload_combining.proofs.count_narrow.Given as goal
 
 abbrev pub invariant-loop-p : goal.invariant-loop-p
-invariant-loop-p l = l.counters ≡ counted l.l.coded l.p (slot_on l.l l.k l.g) l.items l.initial.counters
+invariant-loop-p l = l.counters ≡ counted l.slots.layout.coded l.p (slot_on l.slots.layout l.slot.copy l.slot.group) l.items l.initial.counters

@@ -3,19 +3,15 @@ use mathlib.Core.Path.{ap, ◌∙◌}
 use Prim.Native.Nat.{ℕ}
 use lib.ListN.{replicate}
 use lib.Seq.{length-take-le}
-use Rattle.payload_copying.proofs.SlottedLaws.{addresses-of}
 use Rattle.votes.specs.Loops.Counters.{middle}
 use Rattle.payload_combining.proofs.VoteLaws.{settled-all}
 use Rattle.payload_combining.proofs.decide_copies.Goals as goal
 
-pub count_symbols-requires : goal.count_symbols-requires
-count_symbols-requires c = (
-  c.requires.0,
-  addresses-of _ c.requires.0 _ c.table_of-table.ensures,
-  c.requires.1,
-  c.fill.ensures.after (λ y e. e) ∙ ap (λ (n : ℕ). replicate n middle) (length-take-le c.args.l.coded c.args.out.now c.requires.2),
-)
+pub count_slots-requires : goal.count_slots-requires
+count_slots-requires c =
+    rw c.of.ensures
+    (c.requires.1, c.fill.ensures.after (λ y e. e) ∙ ap (λ (n : ℕ). replicate n middle) (length-take-le c.args.l.coded c.args.out.now c.requires.2))
 
 pub returns : goal.returns
 returns c =
-    rw c.settle.ensures (settled-all c.args.l c.requires.0 c.args.items.now c.args.out.now _ c.count_symbols.ensures)
+    rw c.settle.ensures (settled-all c.args.l c.requires.0 c.args.items.now c.args.out.now _ (rw c.of.ensures at c.count_slots.ensures))
