@@ -7,13 +7,16 @@ use native.Mathlib.Numerals.{add-one}
 use native.Mathlib.Omega.{arith}
 use lib.ListN.{get_or}
 use lib.Pow.{pow_mono}
+use lib.Seq.{get_or-set_same}
 use Rattle.bits.proofs.ListLaws.{get_or-written}
 use Rattle.constituent.specs.Loops.Bytes.{byte_word}
 use Rattle.constituent.proofs.ByteLaws.{word-zero}
 use Rattle.constituent.proofs.by_bytes.Goals as goal
 
 pub loop-bit-init : goal.loop-bit-init
-loop-bit-init c b h = let z : b ≡ 0 = omega arith in rw z (word-zero c.args.taps)
+loop-bit-init c b h =
+    let z : b ≡ 0 = omega arith in
+    rw z (get_or-set_same c.args.table.now 0 0 0 (omega arith) ∙ word-zero c.args.taps)
 
 pub loop-bit-preserved : goal.loop-bit-preserved
 loop-bit-preserved c b h =

@@ -11,7 +11,7 @@ use Rattle.constituent.proofs.FoldLaws.{folded-none, folded-next, folded-all}
 use Rattle.constituent.proofs.fold.Goals as goal
 
 pub loop-chunk-init : goal.loop-chunk-init
-loop-chunk-init c = folded-none _ _ refl
+loop-chunk-init c = folded-none _ _ c.requires
 
 pub loop-chunk-preserved : goal.loop-chunk-preserved
 loop-chunk-preserved c =

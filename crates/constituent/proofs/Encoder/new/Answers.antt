@@ -7,9 +7,18 @@ use Rattle.constituent.proofs.Encoder.new.Invariants.{after, gives}
 use Rattle.constituent.proofs.Encoder.new.Goals as goal
 use Rattle.constituent.proofs.Encoder.new.Goals.{After-byte_word-word}
 
--- there is room for a turn's parity bits
+-- there is room for a turn's state and for its parity bits
+states-fit : (c : After-byte_word-word) → c.loop-s.states * 256 + c.byte_word-word.result % 256 < 2 ^ 64
+states-fit c = stacked-fits (after c.args.taps) c.loop-s.s _ _ (omega arith) c.loop-s.invariant.0 (omega arith) (omega arith)
+
 parities-fit : (c : After-byte_word-word) → c.loop-s.parities * 256 + c.byte_word-word.result / 256 < 2 ^ 64
 parities-fit c = stacked-fits (gives c.args.taps) c.loop-s.s _ _ (omega arith) c.loop-s.invariant.1 (omega arith) (omega arith)
+
+pub overflow_mul-states : goal.overflow_mul-states
+overflow_mul-states c = omega (arith, states-fit (goal.at.overflow_mul-states c).After-byte_word-word)
+
+pub overflow_add-states : goal.overflow_add-states
+overflow_add-states c = omega (arith, states-fit (goal.at.overflow_add-states c).After-byte_word-word)
 
 pub overflow_mul-parities : goal.overflow_mul-parities
 overflow_mul-parities c = omega (arith, parities-fit (goal.at.overflow_mul-parities c).After-byte_word-word)

@@ -12,20 +12,20 @@ use Rattle.constituent.proofs.StateLaws.{ring-lt, parity-lt}
 use Rattle.constituent.proofs.ByteLaws.{state-turn, parity-turn}
 use Rattle.constituent.proofs.PassLaws.{four-by, multiplexed-byte}
 use Rattle.constituent.proofs.Encoder.pack_parity.Goals as goal
-use Rattle.constituent.proofs.Encoder.pack_parity.Goals.{After-given, After-given-in-loop-i}
+use Rattle.constituent.proofs.Encoder.pack_parity.Goals.{After-given-p, After-given-q}
 
 few : (kind taps : ℕ) (p : ℕ → ℕ) (i r : ℕ) → r ≡ four_from (parity_at kind taps p) i → r ≤ 85
 few kind taps p i r e =
     omega (arith, parity-lt kind taps p (4 * i), parity-lt kind taps p (4 * i + 1), parity-lt kind taps p (4 * i + 2), parity-lt kind taps p (4 * i + 3))
 
 -- the parity bits that a turn gives
-gives-one : (c : After-given) → c.given.result ≡ four_from (parity_at c.args.kind c.args.self.now.taps (pair_at (bit_of c.args.bytes.now))) c.loop-i.i
+gives-one : (c : After-given-p) → c.given-p.result ≡ four_from (parity_at c.args.kind c.args.self.now.taps (pair_at (bit_of c.args.bytes.now))) c.loop-i.i
 gives-one c =
-    parity-turn _ c.args.bytes.now _ (ring-lt _ _ _ c.requires.blocks.defined) _ _ _ _ c.loop-i.invariant.2 refl c.given.ensures ∙ four-by _ _ c.args.bytes.now _
+    parity-turn _ c.args.bytes.now _ (ring-lt _ _ _ c.requires.blocks.defined) _ _ _ _ c.loop-i.invariant.2 refl c.given-p.ensures ∙ four-by _ _ c.args.bytes.now _
 
-gives-two : (c : After-given-in-loop-i) → c.given-in-loop-i.result ≡ four_from (parity_at c.args.kind c.args.self.now.taps (pair_at (bit_of c.args.second.now))) c.loop-i.i
+gives-two : (c : After-given-q) → c.given-q.result ≡ four_from (parity_at c.args.kind c.args.self.now.taps (pair_at (bit_of c.args.second.now))) c.loop-i.i
 gives-two c =
-    parity-turn _ c.args.second.now _ (ring-lt _ _ _ c.requires.blocks.defined) _ _ _ _ c.loop-i.invariant.3 refl c.given-in-loop-i.ensures
+    parity-turn _ c.args.second.now _ (ring-lt _ _ _ c.requires.blocks.defined) _ _ _ _ c.loop-i.invariant.3 refl c.given-q.ensures
     ∙ four-by _ _ c.args.second.now _
 
 pub loop-i-init : goal.loop-i-init
@@ -43,11 +43,11 @@ loop-i-init c =
     )
 
 pub overflow_mul-out : goal.overflow_mul-out
-overflow_mul-out c = omega (arith, few _ _ _ _ _ (gives-one c))
+overflow_mul-out c = omega (arith, few _ _ _ _ _ (gives-one (goal.at.overflow_mul-out c).After-given-p))
 
 pub overflow_add-out : goal.overflow_add-out
 overflow_add-out c =
-    omega (arith, few _ _ _ _ _ (gives-one (goal.at.overflow_add-out c).After-given), few _ _ _ _ _ (gives-two c))
+    omega (arith, few _ _ _ _ _ (gives-one (goal.at.overflow_add-out c).After-given-p), few _ _ _ _ _ (gives-two (goal.at.overflow_add-out c).After-given-q))
 
 pub loop-i-preserved : goal.loop-i-preserved
 loop-i-preserved c =
@@ -57,5 +57,5 @@ loop-i-preserved c =
       c.moved-b.ensures.small,
       state-turn _ c.args.bytes.now _ (ring-lt _ _ _ c.requires.blocks.defined) _ _ _ _ l.invariant.2 refl c.moved-a.ensures.after,
       state-turn _ c.args.second.now _ (ring-lt _ _ _ c.requires.blocks.defined) _ _ _ _ l.invariant.3 refl c.moved-b.ensures.after,
-      written_next _ _ _ _ _ l.invariant.4 (omega arith) (multiplexed-byte _ _ _ _ l.i _ _ (gives-one at.After-given) (gives-two at.After-given-in-loop-i)),
+      written_next _ _ _ _ _ l.invariant.4 (omega arith) (multiplexed-byte _ _ _ _ l.i _ _ (gives-one at.After-given-p) (gives-two at.After-given-q)),
     )

@@ -6,4 +6,4 @@ use Rattle.constituent.proofs.Encoder.pass_one.Goals as goal
 pub returns : goal.returns
 returns c =
     ended-folded c.args.self.now.taps _ c.args.bytes.now c.args.second.now _ _ c.walk-2.result refl c.requires
-    c.fold-first.ensures c.fold-other.ensures c.walk-2.ensures
+    c.fold.ensures c.fold-2.ensures c.walk-2.ensures
