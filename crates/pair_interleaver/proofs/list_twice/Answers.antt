@@ -1,33 +1,23 @@
--- `pair_interleaver::list_twice` meets its contract. Assumes nothing.
-use mathlib.Core.Path.{ap, ◌∙◌}
-use Prim.Native.Nat.{◌*◌}
-use native.Mathlib.Omega.{arith}
-use lib.ListN.{length, length-take, length-drop}
-use Rattle.pair_interleaver.proofs.GatherLaws.{halves_long, pairs-written, listed-twice}
-use Rattle.bits.proofs.ListLaws.{length-written}
+-- `pair_interleaver::list_twice` meets its contract: the digits of digits are the pairs, and their copy stands after them. Assumes nothing.
+use Rattle.std.proofs.Common.{ℕ, ◌+◌, ◌-◌, ◌*◌, ◌<◌, length, ap, ◌∙◌, rules, arith, get_or-take}
+use native.Mathlib.Nat.{zero-add}
+use lib.ListN.{get_or-append}
+use Rattle.bits.specs.Bits.{bit_of}
+use Rattle.bits.proofs.NumberLaws.{lt-cases}
+use Rattle.constituent.specs.Pairs.{pair_at}
+use Rattle.pair_interleaver.proofs.GatherLaws.{digits-pairs, twice-first, twice-again}
 use Rattle.pair_interleaver.proofs.list_twice.Goals as goal
-
-pub slice_bounds-split-end-2 : goal.slice_bounds-split-end-2
-slice_bounds-split-end-2 c =
-    halves_long c.args.bytes.now _ _ c.split.ensures
-
-pub split-requires-2 : goal.split-requires-2
-split-requires-2 c =
-    let n = halves_long c.args.bytes.now _ _ c.split.ensures in
-    (omega arith, omega (arith, n, c.requires.0), omega (arith, n, c.requires.1))
-
-pub slice_bounds-split-end-3 : goal.slice_bounds-split-end-3
-slice_bounds-split-end-3 c =
-    halves_long c.args.bytes.now _ _ c.split.ensures
-
-pub split-requires-3 : goal.split-requires-3
-split-requires-3 c =
-    let n = halves_long c.args.bytes.now _ _ c.split.ensures in
-    let o = pairs-written c.args.bytes.now _ _ c.split.ensures c.args.out.now _ c.split-2.ensures in
-    let m = ap length o ∙ length-written (4 * length c.args.bytes.now) _ c.args.out.now (omega (arith, c.requires.1)) in
-    (omega arith, omega (arith, n, c.requires.0), simp (length-take, length-drop) (omega (arith, n, m, c.requires.1)))
 
 pub returns : goal.returns
 returns c =
-    let h = pairs-written c.args.bytes.now _ _ c.split.ensures in
-    listed-twice (4 * length c.args.bytes.now) _ _ _ _ _ (omega arith) (h _ _ c.split-2.ensures) (h _ _ c.split-3.ensures)
+    let bytes = c.args.bytes.now in
+    let l = 4 * length bytes in
+    let p = pair_at (bit_of bytes) in
+    let copied = c.copy_within.ensures.by_index in
+    let first = λ (t : ℕ) (b : t < l).
+    get_or-append c.split-2.new.out _ 0 t (search rules) ∙ c.split-2.ensures t (search rules)
+    ∙ digits-pairs bytes _ (λ k h. get_or-take (2 * length bytes) _ k 0 h ∙ get_or-append c.split.new.out _ 0 k (search rules) ∙ c.split.ensures k (search rules)) t b in
+    λ t h.
+    lt-cases t l
+    (λ b. copied.1 t 0 b ∙ first t b ∙ twice-first l p t b)
+    (λ b. copied.0 t 0 b (omega arith) ∙ first (0 + (t - l)) (omega arith) ∙ ap p (zero-add (t - l)) ∙ twice-again l p t b (omega arith))
