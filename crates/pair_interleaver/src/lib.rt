@@ -54,8 +54,9 @@ fn list_twice(bytes: &[u8], out: &mut [u8])
     let l = 4 * bytes.len();
     let mut halves = [0u8; 1040];
     split(bytes, 16, &mut halves[..n]);
-    split(&halves[..n], 4, &mut out[..l]);
-    out.copy_within(..l, l);
+    let (first, again) = out.split_at_mut(l);
+    split(&halves[..n], 4, first);
+    again.copy_from_slice(first);
 }
 
 // The table's entries, each moved up.

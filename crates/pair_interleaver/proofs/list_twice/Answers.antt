@@ -1,7 +1,7 @@
 -- `pair_interleaver::list_twice` meets its contract: the digits of digits are the pairs, and their copy stands after them. Assumes nothing.
-use Rattle.std.proofs.Common.{ℕ, ◌+◌, ◌-◌, ◌*◌, ◌<◌, length, ap, ◌∙◌, rules, arith, get_or-take}
-use native.Mathlib.Nat.{zero-add}
+use Rattle.std.proofs.Common.{◌≡◌, ℕ, ◌-◌, ◌*◌, ◌<◌, ◌++◌, List, length, get_or, ap, ◌∙◌, rules, arith, get_or-take}
 use lib.ListN.{get_or-append}
+use Rattle.std.proofs.lemmas.List.{places}
 use Rattle.bits.specs.Bits.{bit_of}
 use Rattle.bits.proofs.NumberLaws.{lt-cases}
 use Rattle.constituent.specs.Pairs.{pair_at}
@@ -13,11 +13,16 @@ returns c =
     let bytes = c.args.bytes.now in
     let l = 4 * length bytes in
     let p = pair_at (bit_of bytes) in
-    let copied = c.copy_within.ensures.by_index in
-    let first = λ (t : ℕ) (b : t < l).
-    get_or-append c.split-2.new.out _ 0 t (search rules) ∙ c.split-2.ensures t (search rules)
+    let first = c.split-2.new.out in
+    let again = c.copy_from_slice.new.self in
+    let long : length first ≡ l = search rules in
+    let same : again ≡ first = c.copy_from_slice.ensures.after in
+    let pairs = λ (t : ℕ) (b : t < l).
+    c.split-2.ensures t (omega arith)
     ∙ digits-pairs bytes _ (λ k h. get_or-take (2 * length bytes) _ k 0 h ∙ get_or-append c.split.new.out _ 0 k (search rules) ∙ c.split.ensures k (search rules)) t b in
     λ t h.
-    lt-cases t l
-    (λ b. copied.1 t 0 b ∙ first t b ∙ twice-first l p t b)
-    (λ b. copied.0 t 0 b (omega arith) ∙ first (0 + (t - l)) (omega arith) ∙ ap p (zero-add (t - l)) ∙ twice-again l p t b (omega arith))
+        lt-cases t l
+        (λ b. get_or-append first again 0 t (omega arith) ∙ pairs t b ∙ twice-first l p t b)
+        (λ b.
+        let after : get_or (first ++ again) t 0 ≡ get_or again (t - l) 0 = grind (arith, places) in
+        after ∙ ap (λ (s : List ℕ). get_or s (t - l) 0) same ∙ pairs (t - l) (omega arith) ∙ twice-again l p t b (omega arith))
