@@ -5,7 +5,6 @@
 #![tactic(auto)]
 
 ghost use Rattle.std.specs.Prelude.{◌≡◌, ◌<◌};
-ghost use Rattle.refusal.specs.Report.{answer};
 ghost use Rattle.bands.specs.Bands.{band_count, first_sub_carrier, last_sub_carrier, symbols as symbols_of, symbol_offsets, carriers as carriers_of};
 ghost use Rattle.bands.specs.Units.{place_report, sub_carrier_report, place_of, sub_carrier_of};
 
@@ -80,26 +79,6 @@ pub fn sub_carrier_of(band: usize, p: Place) -> Result<SubCarrier, Refusal>
         return Err(Refusal::Length(number));
     }
     Ok(SubCarrier(first_of(band) + number))
-}
-
-// A place as an answer.
-pub fn place_answer(p: Result<Place, Refusal>) -> Result<usize, Refusal>
-    ensures { answer result ≡ place_report p }
-{
-    match p {
-        Ok(place) => Ok(place.0),
-        Err(r) => Err(r),
-    }
-}
-
-// A sub-carrier as an answer.
-pub fn sub_carrier_answer(s: Result<SubCarrier, Refusal>) -> Result<usize, Refusal>
-    ensures { answer result ≡ sub_carrier_report s }
-{
-    match s {
-        Ok(sub_carrier) => Ok(sub_carrier.0),
-        Err(r) => Err(r),
-    }
 }
 
 // ---- frame-control symbols

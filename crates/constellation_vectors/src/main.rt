@@ -4,8 +4,7 @@
 // `value(A)` and `value(B)`, and the items; `lost` stands in place of A and B for a lost carrier.
 #![tactic(auto)]
 
-use constellation::Mapped;
-use refusal::{Answer, Refusal};
+use refusal::Refusal;
 use slicing::{Received, Sliced};
 use std::io;
 
@@ -92,7 +91,7 @@ fn value(k: u8) -> f64 {
 // A refusal's number, and what comes with it where that is asked.
 fn refused(rt: &impl Print, r: Refusal, with_value: bool) -> io::Result<()> {
     let mut values = [0u64; 2];
-    let n = refusal::report(Answer::Refused(r), &mut values);
+    let n = refusal::report(Err(r), &mut values);
     output::put(rt, b"refused ")?;
     output::put_number(rt, n as u64)?;
     if with_value {
@@ -118,8 +117,8 @@ fn mapping(
     with_value: bool,
 ) -> io::Result<()> {
     match constellation::map(modulation, d0, d1, d2, d3) {
-        Mapped::At(p) => coordinates(rt, p.i, p.q)?,
-        Mapped::Refused(r) => refused(rt, r, with_value)?,
+        Ok(p) => coordinates(rt, p.i, p.q)?,
+        Err(r) => refused(rt, r, with_value)?,
     }
     output::put(rt, b"\n")
 }
@@ -138,10 +137,10 @@ fn digits(rt: &impl Print, modulation: u8, d0: u8, d1: u8, d2: u8, d3: u8) -> io
 
 fn slicing(rt: &impl Print, modulation: u8, received: Received) -> io::Result<()> {
     match slicing::slice(modulation, received) {
-        Sliced::One(a) => digit(rt, a)?,
-        Sliced::Two(a, b) => digits(rt, 1, a, b, 0, 0)?,
-        Sliced::Four(a, b, c, d) => digits(rt, 2, a, b, c, d)?,
-        Sliced::Refused(r) => refused(rt, r, false)?,
+        Ok(Sliced::One(a)) => digit(rt, a)?,
+        Ok(Sliced::Two(a, b)) => digits(rt, 1, a, b, 0, 0)?,
+        Ok(Sliced::Four(a, b, c, d)) => digits(rt, 2, a, b, c, d)?,
+        Err(r) => refused(rt, r, false)?,
     }
     output::put(rt, b"\n")
 }

@@ -2,7 +2,6 @@
 // is written as two lines, its number and what comes with it.
 #![tactic(auto)]
 
-use refusal::Answer;
 use std::io;
 
 // The first n bytes as a line of hex.
@@ -20,8 +19,8 @@ fn put_hex(rt: &impl Print, bytes: &[u8; 520], n: usize) -> io::Result<()> {
 fn decode(rt: &impl Print, card: &[u8], items: &[u8]) -> io::Result<()> {
     let mut bytes = [0u8; 520];
     match job::read(card, items, &mut bytes) {
-        Answer::Done(n) => put_hex(rt, &bytes, n),
-        Answer::Refused(r) => {
+        Ok(n) => put_hex(rt, &bytes, n),
+        Err(r) => {
             command::put_refusal(rt, r)?;
             Ok(())
         }

@@ -2,15 +2,14 @@
 // its number and what comes with it.
 #![tactic(auto)]
 
-use refusal::Answer;
 use std::io;
 
 // The items of some bytes under a card, at most 101,920 (D27).
 fn encode(rt: &impl Print, card: &[u8], block: &[u8]) -> io::Result<()> {
     let mut items = [0u8; 101920];
     match job::send(card, block, &mut items) {
-        Answer::Done(n) => command::put_first(rt, &items, n),
-        Answer::Refused(r) => {
+        Ok(n) => command::put_first(rt, &items, n),
+        Err(r) => {
             command::put_refusal(rt, r)?;
             Ok(())
         }

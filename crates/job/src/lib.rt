@@ -10,21 +10,17 @@ ghost use Rattle.text.specs.Text.{appended};
 ghost use Rattle.card.specs.Gate.{gate};
 ghost use Rattle.job.specs.Jobs.{of_frame, send as send_outcome, read as read_outcome, refusal_lines};
 
-use card::CardRead;
-use refusal::{Answer, Refusal};
+use refusal::Refusal;
 
 // Whether a card goes to frame control: every one that payload does not serve, since one that is no card is refused alike by both.
 fn is_of_frame(card: &[u8]) -> bool
     ensures { result ≡ of_frame (gate 1 4 card.now) }
 {
-    match card::served_card(card, 1, 4) {
-        CardRead::Good(_) => false,
-        CardRead::Refused(_) => true,
-    }
+    card::served_card(card, 1, 4).is_err()
 }
 
 // The items of a word or a block at the start of `out`, or a refusal.
-pub fn send(card: &[u8], block: &[u8], out: &mut [u8]) -> Answer
+pub fn send(card: &[u8], block: &[u8], out: &mut [u8]) -> Result<usize, Refusal>
     ensures answer { answer result ≡ (send_outcome card.now block.now out.old).report }
     ensures items { out.new ≡ (send_outcome card.now block.now out.old).out }
 {
@@ -35,7 +31,7 @@ pub fn send(card: &[u8], block: &[u8], out: &mut [u8]) -> Answer
 }
 
 // The word or block of received items at the start of `out`, or a refusal.
-pub fn read(card: &[u8], items: &[u8], out: &mut [u8]) -> Answer
+pub fn read(card: &[u8], items: &[u8], out: &mut [u8]) -> Result<usize, Refusal>
     ensures answer { answer result ≡ (read_outcome card.now items.now out.old).report }
     ensures bytes { out.new ≡ (read_outcome card.now items.now out.old).out }
 {
@@ -52,7 +48,7 @@ pub fn refusal_lines(r: Refusal, out: &mut [u8]) -> usize
     ensures text { out.new ≡ appended out.old 0 (refusal_lines r) }
 {
     let mut value = [0u64; 2];
-    let number = refusal::report(Answer::Refused(r), &mut value);
+    let number = refusal::report(Err(r), &mut value);
     let at = text::append_number(out, 0, b"refused", number as u64);
     text::append_number(out, at, b"value", value[0])
 }

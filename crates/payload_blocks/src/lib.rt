@@ -12,7 +12,7 @@ ghost use Rattle.interleaver_shape.specs.Shapes.{coded_bits};
 ghost use Rattle.payload_blocks.specs.Blocks.{block_bit, joined_bit, recovered_all};
 ghost use Rattle.payload_blocks.specs.Loops.Parts.{scrambled_byte, descrambled_byte};
 
-use refusal::Answer;
+use refusal::Refusal;
 
 // ---- sending
 
@@ -56,7 +56,7 @@ fn recover_scrambled(
     blocks: usize,
     decided: &[u8],
     bytes: &mut [u8],
-) -> Answer
+) -> Result<usize, Refusal>
     requires { (Defined kind rate) × (blocks ≤ 4) × (length decided.now ≡ blocks * coded_bits kind rate) × (blocks * block_bytes kind ≤ length bytes.old) }
     ensures answer { answer result ≡ (recovered_all kind rate taps blocks (λ x. get_or decided.now x 0) bytes.old).report }
     ensures bytes { answer result ≡ done (blocks * block_bytes kind) → bytes.new ≡ written (blocks * block_bytes kind)
@@ -69,16 +69,12 @@ fn recover_scrambled(
     let mut b: usize = 0;
     while b < blocks {
         let end = from + count;
-        match recovery::recover(kind, rate, taps, &decided[from..end], &mut bytes[at..]) {
-            Answer::Refused(r) => return Answer::Refused(r),
-            Answer::Done(_) => {
-                from = end;
-                at += size;
-                b += 1;
-            }
-        }
+        recovery::recover(kind, rate, taps, &decided[from..end], &mut bytes[at..])?;
+        from = end;
+        at += size;
+        b += 1;
     }
-    Answer::Done(at)
+    Ok(at)
 }
 
 // Each of the blocks of `size` bytes, descrambled, one after the other at the start of `out`.
@@ -105,19 +101,15 @@ fn recover_by(
     decided: &[u8],
     bytes: &mut [u8],
     out: &mut [u8],
-) -> Answer
+) -> Result<usize, Refusal>
     requires defined { (Defined kind rate) × (blocks ≤ 4) × (length decided.now ≡ blocks * coded_bits kind rate) }
     requires kind_in_bounds { (blocks * block_bytes kind ≤ length bytes.old) × (blocks * block_bytes kind ≤ length out.old) }
     ensures answer { answer result ≡ (recovered_all kind rate taps blocks (λ x. get_or decided.now x 0) out.old).report }
     ensures payload { out.new ≡ (recovered_all kind rate taps blocks (λ x. get_or decided.now x 0) out.old).out }
 {
-    match recover_scrambled(kind, rate, taps, blocks, decided, bytes) {
-        Answer::Refused(r) => Answer::Refused(r),
-        Answer::Done(n) => {
-            descramble(card::block_bytes(kind), blocks, &bytes[..n], out);
-            Answer::Done(n)
-        }
-    }
+    let n = recover_scrambled(kind, rate, taps, blocks, decided, bytes)?;
+    descramble(card::block_bytes(kind), blocks, &bytes[..n], out);
+    Ok(n)
 }
 
 // The payload of the decided joined bits, at the start of `out`, or refusal 7 or 8 of the lowest block that has one. One block has a
@@ -129,7 +121,7 @@ pub fn recover(
     blocks: usize,
     decided: &[u8],
     out: &mut [u8],
-) -> Answer
+) -> Result<usize, Refusal>
     requires { (Defined kind rate) × (blocks ≤ 4) × (length decided.now ≡ blocks * coded_bits kind rate) × (blocks * block_bytes kind ≤ length out.old) }
     ensures answer { answer result ≡ (recovered_all kind rate taps blocks (λ x. get_or decided.now x 0) out.old).report }
     ensures payload { out.new ≡ (recovered_all kind rate taps blocks (λ x. get_or decided.now x 0) out.old).out }

@@ -3,7 +3,6 @@
 // It reads past a card's end before the length is judged, so a card that is too long is refused too.
 #![tactic(auto)]
 
-use refusal::Answer;
 use std::io;
 
 fn main(rt: HostRuntime) -> io::Result<()> {
@@ -18,7 +17,7 @@ fn main(rt: HostRuntime) -> io::Result<()> {
     let mut input = [0u8; 16];
     let n = command::read_start(&mut rt.stdin(), &mut input);
     let mut text = [0u8; printed_card::LONGEST];
-    let Answer::Done(len) = printed_card::card_text(&input[..n], &mut text) else {
+    let Ok(len) = printed_card::card_text(&input[..n], &mut text) else {
         return Ok(());
     };
     command::put_first(&rt, &text, len)

@@ -9,7 +9,7 @@ ghost use Rattle.std.specs.Float.{binary64};
 ghost use Rattle.refusal.specs.Report.{answer};
 ghost use Rattle.record.specs.Expected.{byte_at, most, most_bytes, most_words, word_at, has_bits, same_byte, same_word, same_float, holds_bytes, holds_words, holds_floats, compared as compared_with};
 
-use refusal::Answer;
+use refusal::Refusal;
 
 // What each byte of an output is before a call, and eight of them.
 pub const UNTOUCHED: u8 = 0xA5;
@@ -194,7 +194,7 @@ fn are_expected(number: u64, value: u64, second: u64, r: Record) -> bool
 }
 
 // What a call gave, by its answer and whether its output is as expected.
-pub fn compared(a: Answer, r: Record, held: bool) -> Given
+pub fn compared(a: Result<usize, Refusal>, r: Record, held: bool) -> Given
     ensures { result ≡ compared_with r (answer a) held }
 {
     let mut values = [UNTOUCHED_WORD; 2];

@@ -17,7 +17,7 @@ ghost use Rattle.record_calls.specs.Calls.{card_in, slice_of, bytes_outcome, jud
 
 use card::Card;
 use record::{Given, Record};
-use refusal::Answer;
+use refusal::Refusal;
 
 // The card whose fields are some words.
 fn card_in(words: &[u8]) -> Card
@@ -38,7 +38,7 @@ fn card_in(words: &[u8]) -> Card
 }
 
 // Slices as a record has it.
-fn slice(card: &[u8], out: &mut [u8]) -> Answer
+fn slice(card: &[u8], out: &mut [u8]) -> Result<usize, Refusal>
     ensures answer { answer result ≡ (slice_of card.now out.old).report }
     ensures out { out.new ≡ (slice_of card.now out.old).out }
 {
@@ -50,7 +50,7 @@ fn slice(card: &[u8], out: &mut [u8]) -> Answer
 }
 
 // A call whose output is bytes.
-fn call(call: u64, card: &[u8], input: &[u8], out: &mut [u8]) -> Answer
+fn call(call: u64, card: &[u8], input: &[u8], out: &mut [u8]) -> Result<usize, Refusal>
     ensures answer { answer result ≡ (bytes_outcome call card.now input.now out.old).report }
     ensures out { out.new ≡ (bytes_outcome call card.now input.now out.old).out }
 {

@@ -134,7 +134,7 @@ pub extern "C" fn hplc_place_of_sub_carrier(
     ensures { Reported (place_of band sub_carrier) result value.new }
 {
     let place = bands::place_of(band as usize, SubCarrier(sub_carrier as usize));
-    refusal::report(bands::place_answer(place), value)
+    refusal::report(place.map(|p| p.0), value)
 }
 
 // The sub-carrier at a place of a band.
@@ -143,7 +143,7 @@ pub extern "C" fn hplc_sub_carrier_of_place(band: u64, place: u64, value: &mut [
     ensures { Reported (sub_carrier_of band place) result value.new }
 {
     let sub_carrier = bands::sub_carrier_of(band as usize, Place(place as usize));
-    refusal::report(bands::sub_carrier_answer(sub_carrier), value)
+    refusal::report(sub_carrier.map(|s| s.0), value)
 }
 
 // The items of a frame control.

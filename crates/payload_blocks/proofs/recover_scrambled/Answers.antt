@@ -1,5 +1,6 @@
 -- `payload_blocks::recover_scrambled` meets its contract: the lowest block that is refused decides, and the bytes of the others stand one
 -- after the other. Assumes nothing.
+use Rattle.std.proofs.lemmas.Result.{err_from_is_err_and}
 use mathlib.Core.Path.{◌≡◌, refl, sym, ap, subst, ◌∙◌}
 use mathlib.Core.List.{List}
 use Prim.Native.Nat.{ℕ, ◌+◌, ◌*◌, ◌≤◌}
@@ -64,17 +65,17 @@ recover-requires c =
     let at = (goal.at.recover-requires c).In-loop-b in
     (c.requires.0, simp (length-take, length-drop) (omega (arith, bits_in at, c.loop-b.invariant.7)), simp (length-take, length-drop) (omega (arith, block_in at)))
 
-pub returns-in-Refused : goal.returns-in-Refused
-returns-in-Refused c =
+pub returns-in_err-recover : goal.returns-in_err-recover
+returns-in_err-recover c =
     let a = c.args in
     let at = c.loop-b in
     let same = part-recovered a.kind a.rate c.requires.0 a.decided.now at.b at.from _ at.invariant.1 (ap (λ (m : ℕ). at.from + m) at.invariant.7) a.taps _ in
-    let is = one-refused a.kind a.rate a.taps _ _ c.in-Refused.r (ap (λ (o : Outcome ℕ (List ℕ)). o.report) (sym same) ∙ sym c.in-Refused.ensures.answer) in
+    let is = one-refused a.kind a.rate a.taps _ _ c.in_err-recover.field-0.0 (ap (λ (o : Outcome ℕ (List ℕ)). o.report) (sym same) ∙ sym c.in_err-recover.ensures.answer) in
+    let p = err_from_is_err_and c.from_residual.result c.from_residual.ensures.1 in
     record {
-      answer =
-          ap (λ (o : Outcome ℕ (List ℕ)). o.report)
-          (sym (lowest-block a.kind a.rate a.taps (decided_at a.decided.now) (block_bytes a.kind) a.blocks at.b c.in-Refused.r c.loop-b-test.true at.invariant.5 is a.bytes.now));
-      bytes = λ e. absurd (not-answered c.in-Refused.r e);
+      answer = rw (p.1, p.2) (ap (λ (o : Outcome ℕ (List ℕ)). o.report)
+          (sym (lowest-block a.kind a.rate a.taps (decided_at a.decided.now) (block_bytes a.kind) a.blocks at.b c.in_err-recover.field-0.0 c.loop-b-test.true at.invariant.5 is a.bytes.now)));
+      bytes = λ e. absurd (not-answered c.in_err-recover.field-0.0 (rw (p.1, p.2) at e));
     }
 
 pub overflow_add-at : goal.overflow_add-at
@@ -99,14 +100,14 @@ loop-b-preserved c =
     let size = block_bytes a.kind in
     let e = decided_at a.decided.now in
     let same = part-recovered a.kind a.rate c.requires.0 a.decided.now at.b at.from _ at.invariant.1 (ap (λ (m : ℕ). at.from + m) at.invariant.7) a.taps _ in
-    let (none, is) = one-done a.kind a.rate a.taps (bits_of_block a.kind a.rate e at.b) _ c.in-Done.field-0 (ap (λ (o : Outcome ℕ (List ℕ)). o.report) (sym same) ∙ sym c.in-Done.ensures.answer) in (
+    let (none, is) = one-done a.kind a.rate a.taps (bits_of_block a.kind a.rate e at.b) _ c.in_ok-recover.field-0 (ap (λ (o : Outcome ℕ (List ℕ)). o.report) (sym same) ∙ sym c.in_ok-recover.ensures.answer) in (
       omega (arith, c.loop-b-test.true),
       omega (arith, at.invariant.1, at.invariant.7, row_next at.b (coded_bits a.kind a.rate)),
       omega (arith, at.invariant.2, at.invariant.6, row_next at.b size),
       omega (arith, at.invariant.3),
       written_all _ _ _ _ _
           (written-part at.at size (scrambled_byte a.kind a.rate e) _ _ _ _ at.invariant.4 (λ j h. part-scrambled a.kind a.rate e at.b at.at j at.invariant.2 h)
-          (c.in-Done.ensures.bytes ∙ ap (λ (o : Outcome ℕ (List ℕ)). o.out) same ∙ is))
+          (c.in_ok-recover.ensures.bytes ∙ ap (λ (o : Outcome ℕ (List ℕ)). o.out) same ∙ is))
           (ap (λ (m : ℕ). at.at + m) (sym at.invariant.6)),
       none_next (block_rows a.kind a.rate a.taps e) at.b at.invariant.5 none,
       at.invariant.6,
