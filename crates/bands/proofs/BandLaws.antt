@@ -1,6 +1,5 @@
 -- The bands' numbers. Each table's fact is one computed test over the bands. Assumes nothing.
-use mathlib.Core.Path.{◌≡◌, sym, ap, ◌∙◌}
-use mathlib.Core.List.{List}
+use mathlib.Core.Path.{◌≡◌}
 use Prim.Native.Nat.{ℕ, ◌+◌, ◌≤◌, ◌<◌}
 use native.Mathlib.Omega.{arith}
 use lib.Dec.{leb, leb→le}
@@ -27,18 +26,11 @@ carriers-between band h = omega (arith, first-last band h)
 pub carriers-below : (band : ℕ) → band < band_count → carriers band < 513
 carriers-below band h = omega (arith, carriers-between band h, last-below band h)
 
--- a band has an offset for each of its symbols
-offset-count : (band : ℕ) → band < band_count → length (offsets band) ≡ symbols band
+-- a band has an offset for each of its symbols: the first of all offsets
+pub offset-count : (band : ℕ) → band < band_count → length (offsets band) ≡ symbols band
 unfolding offsets
 offset-count band h = agree band_count (λ band. length (offsets band)) symbols tt band h
 
--- the first of all offsets, as many as the band has symbols, are the band's
-pub offsets_are : (band count : ℕ) (os : List ℕ) → os ≡ symbol_offsets → count ≡ symbols band → take count os ≡ offsets band
+pub offsets_are : (band count : ℕ) → count ≡ symbols band → take count symbol_offsets ≡ offsets band
 unfolding offsets
-offsets_are band count os e f = rw (e, f)
-
-pub offsets-within : (band count : ℕ) (os : List ℕ) → band < band_count → os ≡ symbol_offsets → count ≡ symbols band → count ≤ length os
-offsets-within band count os h e f = rw (e, f) (omega (arith, symbols-few band h))
-
-pub offsets-long : (band count : ℕ) (os : List ℕ) → band < band_count → os ≡ symbol_offsets → count ≡ symbols band → count ≡ length (take count os)
-offsets-long band count os h e f = f ∙ sym (ap length (offsets_are band count os e f) ∙ offset-count band h)
+offsets_are band count e = rw e

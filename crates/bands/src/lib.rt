@@ -4,8 +4,8 @@
 // callers show what it requires.
 #![tactic(auto)]
 
-ghost use Rattle.std.specs.Prelude.{◌≡◌, ◌<◌};
-ghost use Rattle.bands.specs.Bands.{band_count, first_sub_carrier, last_sub_carrier, symbols as symbols_of, symbol_offsets, carriers as carriers_of};
+ghost use Rattle.std.specs.Prelude.{◌≡◌, ◌<◌, ◌≤◌, MatchOption};
+ghost use Rattle.bands.specs.Bands.{band_count, first_sub_carrier, last_sub_carrier, symbols as symbols_of, offsets as offsets_of, carriers as carriers_of};
 ghost use Rattle.bands.specs.Units.{place_report, sub_carrier_report, place_of, sub_carrier_of};
 
 use refusal::Refusal;
@@ -18,50 +18,108 @@ pub struct SubCarrier(pub usize);
 #[derive(Clone, Copy)]
 pub struct Place(pub usize);
 
-const BANDS: usize = 4;
-
-// By band: its first and its last sub-carrier.
-const FIRST: [usize; 4] = [80, 100, 32, 72];
-
-const LAST: [usize; 4] = [490, 230, 120, 120];
-
-// A band's first sub-carrier.
-fn first_of(band: usize) -> usize
-    requires { band < band_count }
-    ensures { result ≡ first_sub_carrier band }
-{
-    FIRST[band]
+// A defined band, by its number.
+#[derive(Clone, Copy)]
+pub struct Band {
+    pub number: usize,
+    pub ghost defined: { number < band_count },
 }
 
-// A band's last sub-carrier.
-fn last_of(band: usize) -> usize
-    requires { band < band_count }
-    ensures { result ≡ last_sub_carrier band }
-{
-    LAST[band]
+// A band's first and its last sub-carrier, and how many frame-control symbols it has.
+#[derive(Clone, Copy)]
+struct Row {
+    first: usize,
+    last: usize,
+    symbols: usize,
 }
 
-// The carriers of a symbol.
-pub fn carriers(band: usize) -> usize
-    requires { band < band_count }
-    ensures { result ≡ carriers_of band }
-{
-    last_of(band) - first_of(band) + 1
+const BANDS: [Row; 4] = [
+    Row {
+        first: 80,
+        last: 490,
+        symbols: 4,
+    },
+    Row {
+        first: 100,
+        last: 230,
+        symbols: 12,
+    },
+    Row {
+        first: 32,
+        last: 120,
+        symbols: 12,
+    },
+    Row {
+        first: 72,
+        last: 120,
+        symbols: 12,
+    },
+];
+
+// The offset of each frame-control symbol; a band with fewer symbols has the first of them.
+static OFFSETS: [u8; 12] = [0, 192, 160, 96, 144, 80, 48, 240, 24, 184, 136, 40];
+
+impl Band {
+    // The band of a number, where one is defined.
+    pub fn new(number: usize) -> Option<Band>
+        ensures { MatchOption result (band_count ≤ number) (λ b. b.number ≡ number) }
+    {
+        if number < BANDS.len() {
+            Some(Band { number })
+        } else {
+            None
+        }
+    }
+
+    // Its first sub-carrier.
+    fn first(self) -> usize
+        ensures { result ≡ first_sub_carrier self.number }
+    {
+        BANDS[self.number].first
+    }
+
+    // Its last sub-carrier.
+    fn last(self) -> usize
+        ensures { result ≡ last_sub_carrier self.number }
+    {
+        BANDS[self.number].last
+    }
+
+    // The carriers of a symbol.
+    pub fn carriers(self) -> usize
+        ensures { result ≡ carriers_of self.number }
+    {
+        self.last() - self.first() + 1
+    }
+
+    // Its frame-control symbols.
+    pub fn symbols(self) -> usize
+        ensures { result ≡ symbols_of self.number }
+    {
+        BANDS[self.number].symbols
+    }
+
+    // The offset of each of its frame-control symbols.
+    pub fn offsets(self) -> &'static [u8]
+        ensures { result.now ≡ offsets_of self.number }
+    {
+        &OFFSETS[..self.symbols()]
+    }
 }
 
 // The place of a sub-carrier in a band.
 pub fn place_of(band: usize, s: SubCarrier) -> Result<Place, Refusal>
     ensures { place_report result ≡ place_of band s.0 }
 {
-    let number = s.0;
-    if BANDS <= band {
+    let Some(band) = Band::new(band) else {
         return Err(Refusal::Mode);
-    }
-    let first = first_of(band);
+    };
+    let number = s.0;
+    let first = band.first();
     if number < first {
         return Err(Refusal::Length(number));
     }
-    if last_of(band) < number {
+    if band.last() < number {
         return Err(Refusal::Length(number));
     }
     Ok(Place(number - first))
@@ -71,35 +129,12 @@ pub fn place_of(band: usize, s: SubCarrier) -> Result<Place, Refusal>
 pub fn sub_carrier_of(band: usize, p: Place) -> Result<SubCarrier, Refusal>
     ensures { sub_carrier_report result ≡ sub_carrier_of band p.0 }
 {
-    let number = p.0;
-    if BANDS <= band {
+    let Some(band) = Band::new(band) else {
         return Err(Refusal::Mode);
-    }
-    if carriers(band) <= number {
+    };
+    let number = p.0;
+    if band.carriers() <= number {
         return Err(Refusal::Length(number));
     }
-    Ok(SubCarrier(first_of(band) + number))
-}
-
-// ---- frame-control symbols
-
-// By band: its frame-control symbols.
-const SYMBOLS: [usize; 4] = [4, 12, 12, 12];
-
-// The offset of each symbol.
-const OFFSETS: [u8; 12] = [0, 192, 160, 96, 144, 80, 48, 240, 24, 184, 136, 40];
-
-// A band's frame-control symbols.
-pub fn symbols(band: usize) -> usize
-    requires { band < band_count }
-    ensures { result ≡ symbols_of band }
-{
-    SYMBOLS[band]
-}
-
-// The offset of each symbol; a band with fewer symbols has the first of them.
-pub fn symbol_offsets() -> [u8; 12]
-    ensures { result ≡ symbol_offsets }
-{
-    OFFSETS
+    Ok(SubCarrier(band.first() + number))
 }

@@ -3,8 +3,8 @@
 use mathlib.Core.Path.{◌≡◌, refl, sym, ap, ◌∙◌}
 use mathlib.Core.Bool.{Bool, cond, ◌&&◌}
 use mathlib.Core.List.{List, ◌++◌}
-use Prim.Native.Nat.{ℕ, zero, suc, ◌+◌, ◌-◌, ◌*◌, ◌/◌, ◌%◌, ◌≤◌, ◌<◌}
-use native.Mathlib.Nat.{mod-eq_of_lt}
+use Prim.Native.Nat.{ℕ, zero, suc, ◌+◌, ◌*◌, ◌/◌, ◌%◌, ◌≤◌, ◌<◌}
+use native.Mathlib.Nat.{zero-add, mod-eq_of_lt}
 use native.Mathlib.Omega.{arith}
 use lib.Dec.{eqb}
 use lib.ListN.{get_or, length, take, drop, replicate, get_or-replicate, length-replicate}
@@ -18,10 +18,10 @@ use Rattle.bits.proofs.SumLaws.{sum-ext, sum-add}
 use Rattle.votes.specs.Votes.{carries, votes, majority, decided}
 use Rattle.votes.specs.Loops.Counters.{middle, counted, Adds}
 use Rattle.votes.proofs.VoteLaws.{votes-le}
-use Rattle.votes.proofs.CounterLaws.{alone, counter_at, majority-told}
+use Rattle.votes.proofs.CounterLaws.{adds-more, carries_same, alone, counter_at, majority-told}
 use Rattle.diversity.specs.Lanes.{lane_bit, item_count}
 use Rattle.diversity.specs.Copies.{copies_of}
-use Rattle.diversity.specs.Loops.Cycle.{cycle_bit, cycle_lane}
+use Rattle.diversity.specs.Loops.Cycle.{cycle_bit, cycle_lane, IsRun}
 use Rattle.diversity.proofs.CopyLaws.{places_of, copies_by, copies-formula}
 use Rattle.diversity.proofs.CycleLaws.{cycle-I, cycle-Q, cycle-below, lane-is, two-halves}
 use Rattle.combining.specs.Loops.Counters.{bit_sum, pair_sum}
@@ -72,6 +72,18 @@ two-counters : (p q r s x y : ℕ) → x ≡ (middle + p + 255 * q) % 256 → y 
     → (x + y) % 256 ≡ (2 * middle + (p + r) + 255 * (q + s)) % 256
 two-counters p q r s x y e f = omega arith
 
+-- ---- runs
+
+-- the votes of a run, counted behind those before it
+pub run-counted : (C : ℕ) (os items start now later : List ℕ) (n q m done next : ℕ) → IsRun C os n q m → n ≡ done → next ≡ n + m → length now ≡ 512
+    → Adds 512 0 done (carries (cycle_lane C os)) items start now → Adds (length now) n m (carries (λ j. q + j)) items now later
+    → Adds 512 0 next (carries (cycle_lane C os)) items start later
+run-counted C os items start now later n q m done next run here more long before votes =
+    rw more
+    (adds-more 512 0 (carries (cycle_lane C os)) items start n m (carries (λ j. q + j)) now later
+    (rw here before) (rw (zero-add n) (rw long at votes))
+    (λ j x h. carries_same (λ j. q + j) (cycle_lane C os) j (n + j) (sym (run.in_row j h)) x))
+
 -- ---- all items of symbols of C carriers under the offsets os
 
 module _ (C : ℕ) (os items : List ℕ) where
@@ -105,22 +117,22 @@ module _ (C : ℕ) (os items : List ℕ) where
       )
 
   -- the counters of each bit tell its majority
-  pub counters-decide : (start now r : List ℕ) → C ≤ 512 → length os < 32 → start ≡ replicate 512 middle
-      → Adds 512 0 all (carries (cycle_lane C os)) items start now → r ≡ tabulate 256 (λ b. majority (2 * middle) (bit_sum now b))
+  pub counters-decide : (now r : List ℕ) → C ≤ 512 → length os < 32
+      → Adds 512 0 all (carries (cycle_lane C os)) items (replicate 512 middle) now → r ≡ tabulate 256 (λ b. majority (2 * middle) (bit_sum now b))
       → r ≡ tabulate 256 (decided all (carries (lane_bit C os)) items)
   unfolding decided bit_sum
-  counters-decide start now r small few even adds e = e ∙ tabulate-ext 256 _ _ bit
+  counters-decide now r small few adds e = e ∙ tabulate-ext 256 _ _ bit
     where
-      middle-at : (q : ℕ) → q < 512 → get_or start q 0 ≡ middle
-      middle-at q l = rw even (get_or-replicate 512 q middle 0 l)
+      middle-at : (q : ℕ) → q < 512 → get_or (replicate 512 middle) q 0 ≡ middle
+      middle-at q l = get_or-replicate 512 q middle 0 l
 
-      counted-now : now ≡ counted 512 all (carries (cycle_lane C os)) items start
+      counted-now : now ≡ counted 512 all (carries (cycle_lane C os)) items (replicate 512 middle)
       counted-now =
-          alone 512 all (carries (cycle_lane C os)) items start now adds
-          (ap length even ∙ length-replicate 512 middle) (λ q l. omega (arith, middle-at q l))
+          alone 512 all (carries (cycle_lane C os)) items (replicate 512 middle) now adds
+          (length-replicate 512 middle) (λ q l. omega (arith, middle-at q l))
 
       lane-at : (q : ℕ) → q < 512 → get_or now q 0 ≡ (middle + lane_votes q 1 + 255 * lane_votes q 0) % 256
-      lane-at q l = counter_at 512 all (carries (cycle_lane C os)) items start now counted-now q l ∙ rw (middle-at q l)
+      lane-at q l = counter_at 512 all (carries (cycle_lane C os)) items (replicate 512 middle) now counted-now q l ∙ rw (middle-at q l)
 
       bit : (b : ℕ) → b < 256 → majority (2 * middle) ((get_or now (2 * b) 0 + get_or now (far b) 0) % 256) ≡ majority (bit_votes b 0) (bit_votes b 1)
       bit b l =
@@ -143,10 +155,11 @@ pair-sum both first b i q h k l e f =
 -- two halves are all bits
 pub all-bits : (both bits first part : List ℕ) → length bits ≡ 256
     → first ≡ written 128 (λ b. majority (2 * middle) (pair_sum both (0 + b))) bits
-    → part ≡ written 128 (λ b. majority (2 * middle) (pair_sum both (128 + b))) (take (length first - 128) (drop 128 first))
-    → take 128 first ++ (part ++ drop (length first - 128) (drop 128 first)) ≡ tabulate 256 (λ b. majority (2 * middle) (pair_sum both b))
+    → part ≡ written 128 (λ b. majority (2 * middle) (pair_sum both (128 + b))) (take 128 (drop 128 first))
+    → take 128 first ++ (part ++ drop 128 (drop 128 first)) ≡ tabulate 256 (λ b. majority (2 * middle) (pair_sum both b))
 all-bits both bits first part long one two =
-    written-whole 256 256 _ bits _ (two-halves 128 (λ b. majority (2 * middle) (pair_sum both b)) bits first part one two) refl long
+    written-whole 256 256 _ bits _
+    (two-halves 128 128 (λ b. majority (2 * middle) (pair_sum both b)) bits first part (omega arith) (omega arith) one two) refl long
 
 -- pairs of counters, each a byte, are these counters
 pub pairs_decide : (counters both r : List ℕ) → ((q : ℕ) → get_or counters q 0 < 256)

@@ -1,10 +1,13 @@
 -- Laws of the cycle: the bits on its lanes, a cycle of copies, and the runs of a symbol on it. Assumes nothing.
-use Rattle.std.proofs.Common.{◌≡◌, ℕ, ◌+◌, ◌-◌, ◌*◌, ◌/◌, ◌%◌, ◌<◌, ◌≤◌, List, ◌++◌, length, get_or, take, drop, set, refl, ap, ◌∙◌, arith}
+use Rattle.std.proofs.Common.{◌≡◌, ℕ, ◌+◌, ◌-◌, ◌*◌, ◌/◌, ◌%◌, ◌<◌, ◌≤◌, min, List, ◌++◌, length, get_or, take, drop, set, refl, sym, ap, ◌∙◌, append_assoc, arith, length-take, length-drop}
+use Rattle.std.proofs.Math.Nat.{lt_of_mul-lt-mul_left, mod-lt, div-lt_iff_lt-mul, div-add-mod'}
+use Rattle.std.proofs.lemmas.List.{get_or-take, get_or-drop, drop-drop, drop_at}
 use lib.Arith.{digits_div, digits_mod}
 use Rattle.bits.specs.Lists.{tabulate, written}
-use Rattle.bits.proofs.ListLaws.{get_or-tabulate, written-two, written-part, written_all, written-ext, written-whole}
-use Rattle.diversity.specs.Lanes.{lane_bit}
-use Rattle.diversity.specs.Loops.Cycle.{cycle_bit, cycle_lane}
+use Rattle.bits.proofs.NumberLaws.{row_within}
+use Rattle.bits.proofs.ListLaws.{length-tabulate, get_or-tabulate, tabulate-of, tabulate-append, take-written, length-written, written-two, written-part, written_all, written-ext, written-whole}
+use Rattle.diversity.specs.Lanes.{lane_bit, carrier_count, item_count}
+use Rattle.diversity.specs.Loops.Cycle.{cycle_bit, cycle_lane, IsRun}
 
 -- ---- the bits on its lanes
 
@@ -42,20 +45,25 @@ place-written p c i q coded out now h l k e f g =
     lane-q = let at : 2 * p + (2 * c + 1) ≡ 2 * (p + c) + 1 = omega arith in rw (at, cycle-Q (p + c)) (omega arith)
 
 -- two halves of m elements each, the second through the part from m on, which is then put back
-pub two-halves : (m : ℕ) (f : ℕ → ℕ) (out first part : List ℕ) → first ≡ written m (λ n. f (0 + n)) out
-    → part ≡ written m (λ n. f (m + n)) (take (length first - m) (drop m first))
-    → take m first ++ (part ++ drop (length first - m) (drop m first)) ≡ written (m + m) f out
-two-halves m f out first part one two =
-    written-part m m f _ out first part
-    (one ∙ written-ext m _ f out (λ i l. let e : 0 + i ≡ i = omega arith in ap f e)) (λ j l. refl) two
+pub two-halves : (m k : ℕ) (f : ℕ → ℕ) (out first part : List ℕ) → k ≡ length out - m → m ≤ length out → first ≡ written m (λ n. f (0 + n)) out
+    → part ≡ written m (λ n. f (m + n)) (take k (drop m first))
+    → take m first ++ (part ++ drop k (drop m first)) ≡ written (m + m) f out
+two-halves m k f out first part w room one two =
+    rw rest
+    (written-part m m f _ out first part
+    (one ∙ written-ext m _ f out (λ i l. let e : 0 + i ≡ i = omega arith in ap f e)) (λ j l. refl) (rw rest at two))
+  where
+    rest : k ≡ length first - m
+    rest = rw one (omega (arith, length-written m (λ n. f (0 + n)) out room))
 
 -- two halves of a cycle fill it
 pub cycle-filled : (coded cycle first part : List ℕ) → length cycle ≡ 512
     → first ≡ written 256 (λ n. get_or coded (cycle_bit (2 * 0 + n)) 0) cycle
-    → part ≡ written 256 (λ n. get_or coded (cycle_bit (2 * 128 + n)) 0) (take (length first - 256) (drop 256 first))
-    → take 256 first ++ (part ++ drop (length first - 256) (drop 256 first)) ≡ tabulate 512 (λ q. get_or coded (cycle_bit q) 0)
+    → part ≡ written 256 (λ n. get_or coded (cycle_bit (2 * 128 + n)) 0) (take 256 (drop 256 first))
+    → take 256 first ++ (part ++ drop 256 (drop 256 first)) ≡ tabulate 512 (λ q. get_or coded (cycle_bit q) 0)
 cycle-filled coded cycle first part long one two =
-    written-whole 512 512 _ cycle _ (two-halves 256 (λ q. get_or coded (cycle_bit q) 0) cycle first part one two) refl long
+    written-whole 512 512 _ cycle _
+    (two-halves 256 256 (λ q. get_or coded (cycle_bit q) 0) cycle first part (omega arith) (omega arith) one two) refl long
 
 -- ---- runs
 
@@ -64,7 +72,7 @@ pub run_lane : (o c bit j m : ℕ) → bit ≡ (c + o) % 256 → bit + m ≤ 256
 run_lane o c bit j m e h l = omega arith
 
 -- the items of symbol s, from n on, go by the lanes of the cycle from twice its offset on, round it
-pub cycle-at : (C : ℕ) (os : List ℕ) (s n j : ℕ) → n ≡ 2 * (s * C) → j < 2 * C → cycle_lane C os (n + j) ≡ (2 * get_or os s 0 + j) % 512
+cycle-at : (C : ℕ) (os : List ℕ) (s n j : ℕ) → n ≡ 2 * (s * C) → j < 2 * C → cycle_lane C os (n + j) ≡ (2 * get_or os s 0 + j) % 512
 unfolding cycle_lane
 cycle-at C os s n j e h =
     let half : (2 * (s * C) + j) / 2 ≡ s * C + j / 2 = omega arith in
@@ -87,8 +95,56 @@ lane-is C os n = halves (n / 2 % C + get_or os (n / 2 / C) 0) (n % 2) (omega ari
         let rest : (2 * x + r) % 512 % 2 ≡ r = omega arith in
         rw (half, rest) (omega arith)
 
--- so that lane of a cycle of copies holds an item's bit
-pub cycle-item : (C : ℕ) (os coded cycle : List ℕ) (s n j : ℕ) → cycle ≡ tabulate 512 (λ q. get_or coded (cycle_bit q) 0)
-    → n ≡ 2 * (s * C) → j < 2 * C → get_or cycle ((2 * get_or os s 0 + j) % 512) 0 ≡ get_or coded (lane_bit C os (n + j)) 0
-cycle-item C os coded cycle s n j f e h =
-    rw (f, lane-is C os (n + j), cycle-at C os s n j e h) (get_or-tabulate 512 _ ((2 * get_or os s 0 + j) % 512) 0 (omega arith))
+-- the run from carrier k of all symbols on, where lane I carries bit b: up to the end of its symbol, or to the wrap
+module _ (C : ℕ) (os : List ℕ) (k b m : ℕ) (h : k < length os * C) (e : b ≡ (k % C + get_or os (k / C) 0) % 256) (r : m ≡ min (C - k % C) (256 - b)) where
+  some : 0 < C
+  some = lt_of_mul-lt-mul_left (length os) (omega (arith, h))
+
+  place : k % C < C
+  place = mod-lt k some
+
+  at : k ≡ k / C * C + k % C
+  at = sym (div-add-mod' k C)
+
+  pub run-within : k + m ≤ carrier_count C os
+  unfolding carrier_count
+  run-within = omega (arith, at, place, row_within (k / C) C (length os) ((div-lt_iff_lt-mul some).1 h))
+
+  pub run-is : IsRun C os (2 * k) (2 * b) (2 * m)
+  unfolding item_count
+  run-is =
+      record {
+        some = omega (arith, place);
+        within = omega (arith, run-within);
+        on_cycle = omega arith;
+        in_row = λ j l.
+            rw (there j)
+            (cycle-at C os (k / C) (2 * (k / C * C)) (2 * (k % C) + j) refl (omega (arith, place))
+            ∙ sym (run_lane (get_or os (k / C) 0) (k % C) b j m e (omega arith) l));
+      }
+    where
+      there : (j : ℕ) → 2 * k + j ≡ 2 * (k / C * C) + (2 * (k % C) + j)
+      there j = omega (arith, at)
+
+-- the copies of a run are put behind those before it
+module _ (C : ℕ) (os coded : List ℕ) where
+  abbrev copy : ℕ → ℕ
+  copy k = get_or coded (lane_bit C os k) 0
+
+  pub run-put : (cycle out now part : List ℕ) (n q m : ℕ) → IsRun C os n q m → cycle ≡ tabulate 512 (λ q. get_or coded (cycle_bit q) 0)
+      → part ≡ take (q + m - q) (drop q cycle) → now ≡ written n copy out
+      → take n now ++ (part ++ drop (n + m - n) (drop n now)) ≡ written (n + m) copy out
+  unfolding written
+  run-put cycle out now part n q m run full p e =
+      rw (width n, p, width q, e, take-written n copy out, drop_at (tabulate n copy) (drop n out) n (length-tabulate n copy), drop-drop m n out, copies, tabulate-append n m copy)
+      (sym (append_assoc (tabulate n copy) (tabulate m (λ j. copy (n + j))) (drop (n + m) out)))
+    where
+      width : (a : ℕ) → a + m - a ≡ m
+      width a = omega arith
+
+      copies : take m (drop q cycle) ≡ tabulate m (λ j. copy (n + j))
+      copies =
+          tabulate-of m _ 0 (take m (drop q cycle)) (rw full (simp (length-take, length-drop, length-tabulate) (omega (arith, run.on_cycle))))
+          (λ j l.
+          get_or-take m (drop q cycle) j 0 l ∙ get_or-drop q cycle j 0
+          ∙ rw (full, lane-is C os (n + j), run.in_row j l) (get_or-tabulate 512 _ (q + j) 0 (omega (arith, run.on_cycle))))

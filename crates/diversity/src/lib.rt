@@ -3,111 +3,144 @@
 // Internal: nothing here is a public entry, and callers show what a function requires.
 #![tactic(auto)]
 
-ghost use Rattle.std.specs.Prelude.{◌≡◌, ◌+◌, ◌*◌, ◌%◌, ◌<◌, ◌≤◌, length, replicate, slice_index};
+ghost use Rattle.std.specs.Prelude.{◌≡◌, ◌+◌, ◌-◌, ◌*◌, ◌%◌, ◌<◌, ◌≤◌, length, slice_index, MatchOption};
+ghost use Rattle.std.specs.Iterator.{at_most};
 ghost use Rattle.bits.specs.Lists.{tabulate, written};
-ghost use Rattle.diversity.specs.Lanes.{lane_bit, item_count};
-ghost use Rattle.diversity.specs.Loops.Cycle.{cycle_bit};
+ghost use Rattle.bands.specs.Bands.{carriers, offsets};
+ghost use Rattle.diversity.specs.Lanes.{lane_bit, carrier_count, item_count};
+ghost use Rattle.diversity.specs.Loops.Cycle.{cycle_bit, IsRun};
 
-use bands::Place;
+use bands::{Band, Place};
 
-// The items of symbols of so many carriers, one symbol for each offset.
-pub fn item_count(carriers: usize, offsets: &[u8]) -> usize
-    requires { (carriers ≤ 512) × (length offsets.now < 32) }
-    ensures { result ≡ item_count carriers offsets.now }
-{
-    2 * (offsets.len() * carriers)
+// A frame control's symbols: the carriers of each, and for each its offset.
+#[derive(Clone, Copy)]
+pub struct Symbols<'a> {
+    pub carriers: usize,
+    pub offsets: &'a [u8],
+    pub ghost narrow: { carriers ≤ 512 },
+    pub ghost few: { length offsets.now < 32 },
+}
+
+impl<'a> Symbols<'a> {
+    // Those of a band.
+    pub fn on(band: Band) -> Symbols<'static>
+        ensures { (result.carriers ≡ carriers band.number) × (result.offsets.now ≡ offsets band.number) }
+    {
+        Symbols {
+            carriers: band.carriers(),
+            offsets: band.offsets(),
+        }
+    }
+
+    // The items on all carriers.
+    pub fn item_count(&self) -> usize
+        ensures { result ≡ item_count self.now.carriers self.now.offsets.now }
+    {
+        2 * (self.offsets.len() * self.carriers)
+    }
+
+    // The runs of all items, in order.
+    pub fn runs(&self) -> Runs<'a>
+        ensures { (result.symbols ≡ self.now) × (result.carrier ≡ 0) }
+    {
+        Runs {
+            symbols: *self,
+            carrier: 0,
+        }
+    }
+
+    // A copy of a coded bit on each lane, run by run.
+    pub fn copy_items(&self, coded: &[u8; 256], out: &mut [u8])
+        requires { item_count self.now.carriers self.now.offsets.now ≤ length out.old }
+        ensures { out.new ≡ written (item_count self.now.carriers self.now.offsets.now) (λ n. slice_index coded.now (lane_bit self.now.carriers self.now.offsets.now n)) out.old }
+    {
+        let cycle = cycle_of(coded);
+        for run in self.runs() {
+            let copies = &cycle[run.lane..run.lane + run.count];
+            out[run.item..run.item + run.count].copy_from_slice(copies);
+        }
+    }
 }
 
 // The bit on lane I: the place as a byte plus the symbol's offset, wrapping on purpose.
 pub fn lane_i(place: Place, offset: u8) -> u8
     ensures { result ≡ (place.0 + offset) % 256 }
 {
-    let c = place.0;
-    std::num::wrapping_add_u8((c % 256) as u8, offset)
+    ((place.0 % 256) as u8).wrapping_add(offset)
 }
 
 // The bit on lane Q: 128 more.
 pub fn lane_q(place: Place, offset: u8) -> u8
     ensures { result ≡ (place.0 + offset + 128) % 256 }
 {
-    std::num::wrapping_add_u8(lane_i(place, offset), 128)
+    lane_i(place, offset).wrapping_add(128)
 }
 
-// The cycle: the 512 lanes of 256 places under offset 0, I then Q, after which the bits repeat. From any place of a symbol on its items
-// carry the bits of lanes of the cycle in a row, a run, until lane I's bit wraps.
+// The cycle: the 512 lanes of 256 places under offset 0, I then Q, after which the bits repeat.
 
-// The carriers of the run from place c on, where lane I carries `bit`: up to the wrap, or up to the symbol's last one.
-pub fn run_length(carriers: usize, c: usize, bit: usize) -> usize
-    requires { (c < carriers) × (bit < 256) }
-    ensures { (0 < result) × (c + result ≤ carriers) × (bit + result ≤ 256) }
-{
-    let left = carriers - c;
-    if left < 256 - bit {
-        return left;
+// A run: from `item` on, `count` items of a symbol carry the bits of as many lanes of the cycle in a row, from `lane` on.
+#[derive(Clone, Copy)]
+pub struct Run {
+    pub item: usize,
+    pub lane: usize,
+    pub count: usize,
+}
+
+// The runs of the items from a carrier on, over all symbols: each goes up to where lane I's bit wraps, or up to the end of its symbol.
+#[derive(Drop)]
+pub struct Runs<'a> {
+    pub symbols: Symbols<'a>,
+    pub carrier: usize,
+    pub ghost within: { carrier ≤ carrier_count symbols.carriers symbols.offsets.now },
+}
+
+impl<'a> Iterator for Runs<'a> {
+    type Item = Run;
+
+    ghost next_gives = { λ s r t.
+        (t.symbols ≡ s.symbols)
+        × MatchOption r (2 * s.carrier ≡ item_count s.symbols.carriers s.symbols.offsets.now)
+        (λ run. (run.item ≡ 2 * s.carrier) × (2 * t.carrier ≡ run.item + run.count) × IsRun s.symbols.carriers s.symbols.offsets.now run.item run.lane run.count) };
+
+    ghost remaining = { λ s. at_most (carrier_count s.symbols.carriers s.symbols.offsets.now - s.carrier) };
+
+    fn next(&mut self) -> Option<Run> {
+        let Symbols { carriers, offsets } = self.symbols;
+        let from = self.carrier;
+        if offsets.len() * carriers <= from {
+            return None;
+        }
+        let place = from % carriers;
+        let bit = usize::from(lane_i(Place(place), offsets[from / carriers]));
+        let run = (carriers - place).min(256 - bit);
+        self.carrier += run;
+        Some(Run {
+            item: 2 * from,
+            lane: 2 * bit,
+            count: 2 * run,
+        })
     }
-    256 - bit
 }
 
 // The coded bits on half a cycle, from a place on such that neither lane wraps within it.
-fn half_cycle(place: usize, coded: &[u8], cycle: &mut [u8])
-    requires { (place % 128 ≡ 0) × (length coded.now ≡ 256) × (256 ≤ length cycle.old) }
+fn half_cycle(place: usize, coded: &[u8; 256], cycle: &mut [u8])
+    requires { (place % 128 ≡ 0) × (256 ≤ length cycle.old) }
     ensures { cycle.new ≡ written 256 (λ n. slice_index coded.now (cycle_bit (2 * place + n))) cycle.old }
 {
-    let i = lane_i(Place(place), 0) as usize;
-    let q = lane_q(Place(place), 0) as usize;
-    let mut c: usize = 0;
-    while c < 128 {
+    let i = usize::from(lane_i(Place(place), 0));
+    let q = usize::from(lane_q(Place(place), 0));
+    for c in 0..128 {
         cycle[2 * c] = coded[i + c];
         cycle[2 * c + 1] = coded[q + c];
-        c += 1;
     }
 }
 
 // On each lane of the cycle the coded bit that it carries.
-fn fill_cycle(coded: &[u8], cycle: &mut [u8])
-    requires { (length coded.now ≡ 256) × (length cycle.old ≡ 512) }
-    ensures { cycle.new ≡ tabulate 512 (λ q. slice_index coded.now (cycle_bit q)) }
+fn cycle_of(coded: &[u8; 256]) -> [u8; 512]
+    ensures { result ≡ tabulate 512 (λ q. slice_index coded.now (cycle_bit q)) }
 {
-    half_cycle(0, coded, cycle);
+    let mut cycle = [0; 512];
+    half_cycle(0, coded, &mut cycle);
     half_cycle(128, coded, &mut cycle[256..]);
-}
-
-// Room for a cycle.
-fn no_cycle() -> [u8; 512]
-    ensures { result ≡ replicate 512 0 }
-{
-    [0u8; 512]
-}
-
-// The items of one symbol, run by run.
-fn copy_symbol(carriers: usize, offset: u8, cycle: &[u8], out: &mut [u8])
-    requires { (length cycle.now ≡ 512) × (2 * carriers ≤ length out.old) }
-    ensures { out.new ≡ written (2 * carriers) (λ j. slice_index cycle.now ((2 * offset + j) % 512)) out.old }
-{
-    let mut c: usize = 0;
-    while c < carriers {
-        let bit = lane_i(Place(c), offset) as usize;
-        let run = run_length(carriers, c, bit);
-        let at = 2 * bit;
-        let end = at + 2 * run;
-        let n = 2 * c;
-        bits::put(&cycle[at..end], &mut out[n..]);
-        c += run;
-    }
-}
-
-// A copy of a coded bit on each lane, symbol by symbol.
-pub fn copy_items(carriers: usize, offsets: &[u8], coded: &[u8], out: &mut [u8])
-    requires { (length coded.now ≡ 256) × (carriers ≤ 512) × (item_count carriers offsets.now ≤ length out.old) }
-    ensures { out.new ≡ written (item_count carriers offsets.now) (λ n. slice_index coded.now (lane_bit carriers offsets.now n)) out.old }
-{
-    let mut cycle = no_cycle();
-    fill_cycle(coded, &mut cycle);
-    let mut n: usize = 0;
-    let mut s: usize = 0;
-    while s < offsets.len() {
-        copy_symbol(carriers, offsets[s], &cycle, &mut out[n..]);
-        n += 2 * carriers;
-        s += 1;
-    }
+    cycle
 }

@@ -149,7 +149,7 @@ pub fn layout_of(band: usize, modulation: usize, copies: usize, coded: usize) ->
     requires { (band < band_count) × (modulation < 3) × (copy_code copies < 6) × (0 < coded) × (coded < 65536) }
     ensures { result ≡ layout_of band modulation copies coded }
 {
-    let carriers = bands::carriers(band);
+    let carriers = bands::Band { number: band }.carriers();
     let bits = card::carrier_bits(modulation);
     if copies == 1 {
         return one_copy(carriers, bits, coded);

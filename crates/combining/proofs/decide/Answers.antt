@@ -4,5 +4,6 @@ use Rattle.combining.proofs.decide.Goals as goal
 
 pub returns : goal.returns
 returns c =
-    counters-decide c.args.carriers c.args.offsets.now c.args.items.now _ _ _ c.requires.0 c.requires.1
-    c.middle_counters-counters.ensures c.count_symbols.ensures c.decide_counters.ensures
+    let symbols = c.args.symbols.now in
+    counters-decide symbols.carriers symbols.offsets.now c.args.items.now _ _ symbols.narrow symbols.few
+    c.counters_of.ensures c.decide_counters.ensures

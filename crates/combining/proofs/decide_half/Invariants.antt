@@ -1,6 +1,6 @@
 -- `combining::decide_half` meets its contract. The invariant: the first b bits are decided. Assumes nothing.
 use mathlib.Core.Path.{◌≡◌}
-use Prim.Native.Nat.{◌+◌, ◌-◌, ◌*◌, ◌%◌, ◌≤◌}
+use Prim.Native.Nat.{◌+◌, ◌*◌, ◌%◌}
 use lib.ListN.{length}
 use Rattle.bits.specs.Lists.{written}
 use Rattle.votes.specs.Votes.{majority}
@@ -10,8 +10,5 @@ use Rattle.combining.proofs.decide_half.Given as goal
 
 abbrev pub invariant-loop-b : goal.invariant-loop-b
 invariant-loop-b l =
-    (l.b ≤ 128) × (l.i ≡ (l.first + 0) % 256) × (l.q ≡ (l.first + 0 + 128) % 256)
+    (l.i ≡ (l.first + 0) % 256) × (l.q ≡ (l.first + 0 + 128) % 256)
     × (l.bits ≡ written l.b (λ b. majority (2 * middle) (pair_sum l.both (l.first + b))) l.initial.bits) × (length l.bits ≡ length l.initial.bits)
-
-abbrev pub decreases-loop-b : goal.decreases-loop-b
-decreases-loop-b l = 128 - l.b

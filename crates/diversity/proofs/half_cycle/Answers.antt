@@ -5,7 +5,7 @@ use Rattle.diversity.proofs.CycleLaws.{place-written}
 use Rattle.diversity.proofs.half_cycle.Goals as goal
 
 pub loop-c-init : goal.loop-c-init
-loop-c-init c = (search rules, search rules, search rules, written_none _ _, refl)
+loop-c-init c = (search rules, search rules, written_none _ _, refl)
 
 pub bounds-cycle-c-in-loop-c : goal.bounds-cycle-c-in-loop-c
 bounds-cycle-c-in-loop-c c = simp length-set (omega arith)
@@ -15,11 +15,10 @@ loop-c-preserved c =
     let inv = c.loop-c.invariant in (
       search rules,
       search rules,
-      search rules,
       place-written _ _ _ _ c.args.coded.now c.args.cycle.now _ c.requires.0 c.loop-c-test.true
-          (omega arith) inv.3 inv.1 inv.2,
-      simp length-set inv.4,
+          (omega arith) inv.2 inv.0 inv.1,
+      simp length-set inv.3,
     )
 
 pub returns : goal.returns
-returns c = written_all _ _ _ _ _ c.loop-c.invariant.3 (omega arith)
+returns c = written_all _ _ _ _ _ c.loop-c.invariant.2 (omega arith)

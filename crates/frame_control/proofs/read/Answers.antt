@@ -1,7 +1,7 @@
 -- `frame_control::read` meets its contract: the card is judged first. Assumes nothing.
-use Rattle.std.proofs.lemmas.Result.{err_from_is_err_and}
 use mathlib.Core.Path.{sym, ap, ◌∙◌}
 use native.Mathlib.Omega.{arith}
+use Rattle.std.proofs.lemmas.Result.{err_from_is_err_and}
 use Rattle.refusal.specs.Report.{answer}
 use Rattle.card.proofs.GateLaws.{gate-served}
 use Rattle.frame_control.proofs.EntryLaws.{read-refused, read-passed}
@@ -12,17 +12,17 @@ overflow_cast-c c =
     let e = sym c.served_card.ensures ∙ ap answer c.in_ok-c.was in
     omega (arith, (gate-served 0 0 c.args.card.now _ e).taps-lt)
 
-pub read_on-requires : goal.read_on-requires
-read_on-requires c =
+pub invariant_of-band : goal.invariant_of-band
+invariant_of-band c =
     let e = sym c.served_card.ensures ∙ ap answer c.in_ok-c.was in
-    (gate-served 0 0 c.args.card.now _ e).band-lt
+    record { defined = (gate-served 0 0 c.args.card.now _ e).band-lt }
 
 pub returns-in_err-c : goal.returns-in_err-c
 returns-in_err-c c =
+    let p = err_from_is_err_and c.from_residual.result c.from_residual.ensures.1 in
     let a = c.args in
     let e = sym c.served_card.ensures ∙ ap answer c.in_err-c.was in
     let refused = sym (read-refused a.card.now a.items.now a.out.now c.in_err-c.field-0.0 e) in
-    let p = err_from_is_err_and c.from_residual.result c.from_residual.ensures.1 in
     record {
       answer = rw (p.1, p.2) (ap (λ o. o.report) refused);
       word = ap (λ o. o.out) refused;
@@ -34,6 +34,6 @@ returns c =
     let e = sym c.served_card.ensures ∙ ap answer c.in_ok-c.was in
     let passed = sym (read-passed a.card.now a.items.now a.out.now _ e) in
     record {
-      answer = c.read_on.ensures.answer ∙ ap (λ o. o.report) passed;
-      word = c.read_on.ensures.word ∙ ap (λ o. o.out) passed;
+      answer = (rw (c.on.ensures.0, c.on.ensures.1) at c.read_by.ensures.answer) ∙ ap (λ o. o.report) passed;
+      word = (rw (c.on.ensures.0, c.on.ensures.1) at c.read_by.ensures.word) ∙ ap (λ o. o.out) passed;
     }

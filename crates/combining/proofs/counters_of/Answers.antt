@@ -1,0 +1,31 @@
+-- `combining::counters_of` meets its contract. The invariant: the items of the runs passed are counted. Assumes nothing.
+use Rattle.std.proofs.Common.{◌≡◌, ◌∙◌, arith, rules}
+use Rattle.votes.proofs.CounterLaws.{adds_none}
+use Rattle.combining.proofs.CounterLaws.{run-counted}
+use Rattle.combining.proofs.counters_of.Goals as goal
+
+pub loop-run-init : goal.loop-run-init
+loop-run-init c =
+    let start : c.into_iter-run-iterator.result.carrier ≡ 0 = search rules in
+    (search rules, search rules, rw start (adds_none _ _ _ _ _))
+
+pub count_run-requires : goal.count_run-requires
+count_run-requires c =
+    let (same, (item, next, is)) = c.in-Some.ensures.steps in
+    let run = rw c.loop-run.invariant.0 at is in
+    (omega (arith, run.within), omega (arith, run.on_cycle, c.loop-run.invariant.1))
+
+pub loop-run-preserved : goal.loop-run-preserved
+loop-run-preserved c =
+    let (same, (item, next, is)) = c.in-Some.ensures.steps in
+    let inv = c.loop-run.invariant in (
+      same ∙ inv.0,
+      search rules,
+      run-counted _ _ _ _ _ _ _ _ _ _ _ (rw inv.0 at is) item next inv.1 inv.2 c.count_run.ensures,
+    )
+
+pub returns : goal.returns
+returns c =
+    let inv = c.loop-run.invariant in
+    let all = rw inv.0 at c.in-None.ensures.steps.1 in
+    rw (← all) inv.2
