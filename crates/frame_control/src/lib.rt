@@ -11,6 +11,10 @@ ghost use Rattle.refusal.specs.Report.{answer};
 ghost use Rattle.frame_control.specs.Entries.{send_by, send as send_outcome, read_by, read as read_outcome};
 
 use bands::Band;
+<<<<<<< HEAD
+=======
+use coding::Coding;
+>>>>>>> 47b3c1119b4ba367d5e0e26d79892d86c98529a4
 use diversity::Symbols;
 use refusal::Refusal;
 
@@ -26,8 +30,13 @@ fn send_by(symbols: &Symbols, taps: u16, word: &[u8], out: &mut [u8]) -> Result<
     if out.len() < needed {
         return Err(Refusal::Room(needed));
     }
+    let coding = Coding {
+        kind: 0,
+        rate: 0,
+        taps,
+    };
     let mut coded = [0u8; 256];
-    fec::encode(0, 0, taps, word, &mut coded);
+    fec::encode(coding, word, &mut coded);
     symbols.copy_items(&coded, out);
     Ok(needed)
 }
@@ -60,7 +69,12 @@ fn read_by(symbols: &Symbols, taps: u16, items: &[u8], out: &mut [u8]) -> Result
         return Err(Refusal::Item(bad));
     }
     let decided = combining::decide(symbols, items);
-    recovery::recover(0, 0, taps, &decided, out)
+    let coding = Coding {
+        kind: 0,
+        rate: 0,
+        taps,
+    };
+    recovery::recover(coding, &decided, out)
 }
 
 // Reads a word: its bytes at the start of `out`, or refusal 1, 2, 10 or 3 to 8.

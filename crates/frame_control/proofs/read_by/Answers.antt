@@ -5,7 +5,6 @@ use native.Mathlib.Omega.{arith}
 use lib.ListN.{length}
 use borrow.Author.Tests.{lt-ltb, le-ltb, eq-eqb, ne_eqb}
 use Rattle.bits.proofs.ListLaws.{length-tabulate}
-use Rattle.card.proofs.ModeLaws.{defined-half}
 use Rattle.interleaver_shape.proofs.ShapeLaws.{coded-half}
 use Rattle.frame_control.specs.Entries.{read_by}
 use Rattle.frame_control.proofs.EntryLaws.{read-decided}
@@ -45,7 +44,7 @@ returns-then-bad-items c =
 pub recover-requires : goal.recover-requires
 recover-requires c =
     let coded = coded-half 0 (omega arith) in
-    (defined-half 0 (omega arith), ap length c.decide-decided.ensures ∙ length-tabulate 256 _ ∙ sym coded, omega (arith, c.if-out-lt16.false))
+    (ap length c.decide-decided.ensures ∙ length-tabulate 256 _ ∙ sym coded, omega (arith, c.if-out-lt16.false))
 
 pub returns : goal.returns
 returns c =

@@ -1,7 +1,7 @@
 -- `frame_control::send` meets its contract: the card is judged first. Assumes nothing.
-use Rattle.std.proofs.lemmas.Result.{err_from_is_err_and}
 use mathlib.Core.Path.{sym, ap, ◌∙◌}
 use native.Mathlib.Omega.{arith}
+use Rattle.std.proofs.lemmas.Result.{err_from_is_err_and}
 use Rattle.refusal.specs.Report.{answer}
 use Rattle.card.proofs.GateLaws.{gate-served}
 use Rattle.frame_control.proofs.EntryLaws.{send-refused, send-passed}
@@ -19,10 +19,10 @@ invariant_of-band c =
 
 pub returns-in_err-c : goal.returns-in_err-c
 returns-in_err-c c =
+    let p = err_from_is_err_and c.from_residual.result c.from_residual.ensures.1 in
     let a = c.args in
     let e = sym c.served_card.ensures ∙ ap answer c.in_err-c.was in
     let refused = sym (send-refused a.card.now a.word.now a.out.now c.in_err-c.field-0.0 e) in
-    let p = err_from_is_err_and c.from_residual.result c.from_residual.ensures.1 in
     record {
       answer = rw (p.1, p.2) (ap (λ o. o.report) refused);
       items = ap (λ o. o.out) refused;

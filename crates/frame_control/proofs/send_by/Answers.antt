@@ -1,7 +1,6 @@
 -- `frame_control::send_by` meets its contract: each return is a row of its table. Assumes nothing.
 use native.Mathlib.Omega.{arith}
 use borrow.Author.Tests.{lt-ltb, le-ltb, eq-eqb, ne_eqb}
-use Rattle.card.proofs.ModeLaws.{defined-half}
 use Rattle.interleaver_shape.proofs.ShapeLaws.{coded-half}
 use Rattle.diversity.specs.Lanes.{carrier_count, item_count}
 use Rattle.frame_control.specs.Entries.{send_by}
@@ -30,7 +29,7 @@ returns-then-out-needed c =
     }
 
 pub encode-requires : goal.encode-requires
-encode-requires c = (defined-half 0 (omega arith), c.if-word-ne16.false, omega (arith, coded-half 0 (omega arith)))
+encode-requires c = (c.if-word-ne16.false, omega (arith, coded-half 0 (omega arith)))
 
 pub copy_items-requires : goal.copy_items-requires
 unfolding item_count carrier_count
