@@ -12,6 +12,8 @@ use lib.ListN.{length, get_or, take, drop, set, replicate, length-replicate, get
 use lib.Seq.{ext_get_or, drop-cons, set_at, get_or_at, take_at, drop_at, drop-drop, get_or-append-add, get_or-take, get_or-drop}
 use borrow.Author.Tests.{lt-ltb, le-ltb, ltb-false}
 use borrow.Author.Rules.{part_to_end}
+use borrow.Rule.Slice.PartMut.{put_mid}
+use Rattle.std.proofs.lemmas.List.{places}
 use Rattle.bits.specs.Lists.{tabulate, written, lowest, first_above}
 use Rattle.bits.proofs.NumberLaws.{lt-cases}
 
@@ -143,6 +145,22 @@ module _ {A : Type 0} where
 
       back : drop n (tabulate n f ++ drop n out) ≡ drop n out
       back = drop_at (tabulate n f) (drop n out) n (length-tabulate n f)
+
+  -- a loop's turn that writes m elements through the part from n on: f's elements are one part more, and those after it are kept
+  pub part-more : (n m : ℕ) (was part : List A) (f : ℕ → A) (d : A) → n + m ≤ length was → length part ≡ m
+      → ((i : ℕ) → i < n → get_or was i d ≡ f i) → ((j : ℕ) → j < m → get_or part j d ≡ f (n + j))
+      → (i : ℕ) → i < n + m → get_or (put_mid n m was part) i d ≡ f i
+  part-more n m was part f d h l before here i b =
+      lt-cases i n
+      (λ c. let e : get_or (put_mid n m was part) i d ≡ get_or was i d = grind (arith, places) in e ∙ before i c)
+      (λ c.
+      let q : n + (i - n) ≡ i = omega arith in
+      let e : get_or (put_mid n m was part) (n + (i - n)) d ≡ get_or part (i - n) d = grind (arith, places) in
+      rw q at (e ∙ here (i - n) (omega arith)))
+
+  pub part-kept : (n m : ℕ) (was part : List A) (d : A) → n + m ≤ length was → length part ≡ m
+      → (i : ℕ) → n + m ≤ i → get_or (put_mid n m was part) i d ≡ get_or was i d
+  part-kept n m was part d h l i b = grind (arith, places)
 
   -- a loop's end
   pub written_all : (n m : ℕ) (f : ℕ → A) (out now : List A) → now ≡ written n f out → n ≡ m → now ≡ written m f out

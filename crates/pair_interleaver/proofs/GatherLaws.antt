@@ -5,10 +5,9 @@ use Prim.Native.Nat.{ℕ, zero, suc, ◌+◌, ◌-◌, ◌*◌, ◌/◌, ◌%◌
 use native.Mathlib.Nat.{add-mul, mul_assoc, mul_left_comm, mul-le-mul_right, mod-lt, mod-eq_of_lt, div-add-mod'}
 use native.Mathlib.Omega.{arith}
 use lib.Arith.{digits_div, digits_mod}
-use lib.ListN.{length, get_or, take, drop, length-take, length-drop}
+use lib.ListN.{length, get_or, take, drop}
 use lib.Seq.{get_or-drop, get_or-take}
 use borrow.Author.Tests.{eq-eqb, ne_eqb}
-use borrow.Rule.Slice.PartMut.{put_mid}
 use Rattle.std.proofs.lemmas.List.{places}
 use Rattle.bits.specs.Bits.{bit_of}
 use Rattle.bits.proofs.NumberLaws.{lt-cases, row_within}
@@ -19,19 +18,6 @@ use Rattle.constituent.specs.Loops.Bytes.{pair_in, four_from}
 use Rattle.pair_interleaver.specs.Loops.Gather.{digit_of, twice, place_in, picked, by_rows, exchanged_byte, Gathering, Interleaving}
 use Rattle.constituent.proofs.PairLaws.{few-pairs, pair_lt, pair-in-byte}
 use Rattle.pair_interleaver.proofs.InterleaveLaws.{table, whole-rows}
-
--- ---- a turn that stores a part
-
-pub stored_more : (at n : ℕ) (was part : List ℕ) (f : ℕ → ℕ) → at + n ≤ length was → length part ≡ n
-    → ((u : ℕ) → u < at → get_or was u 0 ≡ f u) → ((i : ℕ) → i < n → get_or part i 0 ≡ f (at + i))
-    → (u : ℕ) → u < at + n → get_or (put_mid at n was part) u 0 ≡ f u
-stored_more at n was part f h l before here u b =
-    lt-cases u at
-    (λ c. grind (arith, places))
-    (λ c.
-    let i : at + (u - at) ≡ u = omega arith in
-    let e : get_or (put_mid at n was part) (at + (u - at)) 0 ≡ get_or part (u - at) 0 = grind (arith, places) in
-    rw i at (e ∙ here (u - at) (omega arith)))
 
 -- ---- the list
 
@@ -80,9 +66,6 @@ twice-again l p t h b =
 
 -- ---- the places of four rows
 
-pub row-sum : (r n : ℕ) → r < 4 → (r * n + n ≤ 4 * n) × ((3 - r) * n ≤ 3 * n)
-row-sum r n h = (row_within r n 4 h, mul-le-mul_right {m = 3 - r} {n = 3} n (omega arith))
-
 pub row-place : (s : List ℕ) (r k : ℕ) → k < length s → get_or s k 0 + (3 - r) * length s ≡ place_in s (r * length s + k)
 unfolding place_in
 row-place s r k h = rw (digits_div r h, digits_mod r h)
@@ -99,21 +82,10 @@ pub picked-pair : (places list out : List ℕ) → Gathering places list out →
 unfolding picked
 picked-pair places list out G t r h e = rw e (G.pairs (get_or places t 0) (G.there t h))
 
--- what a turn asks, from what the whole asks
-module _ (places list was : List ℕ) (I : Interleaving places list was) (base : ℕ) (low : base + 3 * (length places / 4) ≤ 4 * length was) where
-  pub base-le : base ≤ length list
-  base-le = omega (arith, I.there 0 (omega (arith, I.some)), I.some)
-
-  pub place-lt : (t : ℕ) → t < length places → get_or places t 0 < length list - base
-  place-lt t h = omega (arith, I.there t h)
-
-  pub gathering : (part : List ℕ) → length part ≡ length places / 4 → Gathering places (take (length list - base) (drop base list)) part
-  gathering part room =
-      record {
-        there = λ t l. simp (length-take, length-drop) (omega (arith, place-lt t l));
-        pairs = λ t l. let k : t < length list - base = omega (arith, simp (length-take, length-drop) at l) in rw (get_or-take, get_or-drop) (I.pairs (base + t) (omega arith));
-        room = room;
-      }
+-- a place is in what is left of the list
+pub place-lt : (places list was : List ℕ) → Interleaving places list was → (base : ℕ) → base + 3 * (length places / 4) ≤ 4 * length was
+    → (t : ℕ) → t < length places → get_or places t 0 < length list - base
+place-lt places list was I base low t h = omega (arith, I.there t h)
 
 module _ (places list : List ℕ) (n r at : ℕ) (e : at ≡ r * (length places / 4)) where
   -- the width of four rows in bytes, and where they are read from

@@ -21,8 +21,8 @@ returns c =
     c.split-2.ensures t (omega arith)
     ∙ digits-pairs bytes _ (λ k h. get_or-take (2 * length bytes) _ k 0 h ∙ get_or-append c.split.new.out _ 0 k (search rules) ∙ c.split.ensures k (search rules)) t b in
     λ t h.
-        lt-cases t l
-        (λ b. get_or-append first again 0 t (omega arith) ∙ pairs t b ∙ twice-first l p t b)
-        (λ b.
-        let after : get_or (first ++ again) t 0 ≡ get_or again (t - l) 0 = grind (arith, places) in
-        after ∙ ap (λ (s : List ℕ). get_or s (t - l) 0) same ∙ pairs (t - l) (omega arith) ∙ twice-again l p t b (omega arith))
+    lt-cases t l
+    (λ b. get_or-append first again 0 t (omega arith) ∙ pairs t b ∙ twice-first l p t b)
+    (λ b.
+    let after : get_or (first ++ again) t 0 ≡ get_or again (t - l) 0 = grind (arith, places) in
+    after ∙ ap (λ (s : List ℕ). get_or s (t - l) 0) same ∙ pairs (t - l) (omega arith) ∙ twice-again l p t b (omega arith))
