@@ -3,7 +3,7 @@
 // Internal: nothing here is a public entry. A function with a `requires` is called only where its caller has shown it.
 #![tactic(auto)]
 
-ghost use Rattle.std.specs.Prelude.{◌≡◌, not, ◌++◌, ℕ, ◌+◌, ◌-◌, ◌*◌, ◌/◌, ◌%◌, ◌^◌, ◌<◌, ◌≤◌, eqb, length, get_or, slice_index, EachIndex, drop};
+ghost use Rattle.std.specs.Prelude.{◌≡◌, not, ◌++◌, ℕ, ◌+◌, ◌-◌, ◌*◌, ◌/◌, ◌%◌, ◌^◌, ◌<◌, ◌≤◌, eqb, length, get_or, slice_index, EachIndex, drop, MatchOption};
 ghost use Rattle.std.specs.Int.Bits.{bit_xor};
 ghost use Rattle.bits.specs.Lists.{tabulate, written, first_above};
 ghost use Rattle.bits.specs.Bits.{bit_at, bit_of, byte_of, field};
@@ -17,15 +17,15 @@ fn largest(s: &[u8]) -> u8
     s.iter().copied().max().unwrap_or(0)
 }
 
-// The lowest index of an element above `limit`, or the slice's length. The largest element is found much faster, so the search runs
-// only where there is something to find.
-pub fn first_above(s: &[u8], limit: u8) -> usize
-    ensures { result ≡ first_above limit s.now }
+// The lowest index of an element above `limit`, if there is one. The largest element is found much faster, so the search runs only
+// where there is something to find.
+pub fn first_above(s: &[u8], limit: u8) -> Option<usize>
+    ensures { MatchOption result (length s.now ≤ first_above limit s.now) (λ i. (i ≡ first_above limit s.now) × (i < length s.now)) }
 {
     if largest(s) <= limit {
-        return s.len();
+        return None;
     }
-    s.iter().position(|x| limit < *x).unwrap_or(s.len())
+    s.iter().position(|x| limit < *x)
 }
 
 // All of `src` at the start of `out`.

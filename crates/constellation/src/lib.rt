@@ -101,8 +101,7 @@ pub fn map(modulation: u8, d0: u8, d1: u8, d2: u8, d3: u8) -> Result<Point, Refu
     }
     let n = card::carrier_bits(modulation as usize);
     let all = [d0, d1, d2, d3];
-    let bad = bits::first_above(&all[..n], 1);
-    if bad < n {
+    if let Some(bad) = bits::first_above(&all[..n], 1) {
         return Err(Refusal::Item(bad));
     }
     Ok(point_of(modulation, &all[..n]))
@@ -123,8 +122,7 @@ pub fn map_into(modulation: u64, bits: &[u8], point: &mut [f64]) -> Result<usize
     if point.len() < 2 {
         return Err(Refusal::Room(2));
     }
-    let illegal = bits::first_above(bits, 1);
-    if illegal < n {
+    if let Some(illegal) = bits::first_above(bits, 1) {
         return Err(Refusal::Item(illegal));
     }
     let p = point_of(modulation as u8, bits);

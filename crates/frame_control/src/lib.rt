@@ -64,8 +64,7 @@ fn read_by(symbols: &Symbols, taps: u16, items: &[u8], out: &mut [u8]) -> Result
     if out.len() < 16 {
         return Err(Refusal::Room(16));
     }
-    let bad = bits::first_above(items, 2);
-    if bad < items.len() {
+    if let Some(bad) = bits::first_above(items, 2) {
         return Err(Refusal::Item(bad));
     }
     let decided = combining::decide(symbols, items);

@@ -127,8 +127,7 @@ fn read_by(c: &Card, items: &[u8], out: &mut [u8]) -> Result<usize, Refusal>
     if out.len() < size {
         return Err(Refusal::Room(size));
     }
-    let illegal = bits::first_above(items, 2);
-    if illegal < items.len() {
+    if let Some(illegal) = bits::first_above(items, 2) {
         return Err(Refusal::Item(illegal));
     }
     plan.read_items(items, out)

@@ -88,8 +88,7 @@ pub fn recover(coding: Coding, decided: &[u8], out: &mut [u8]) -> Result<usize, 
     ensures answer { answer result ≡ (recovered coding.kind coding.rate coding.taps (λ i. get_or decided.now i 0) out.old).report }
     ensures bytes { out.new ≡ (recovered coding.kind coding.rate coding.taps (λ i. get_or decided.now i 0) out.old).out }
 {
-    let undecided = bits::first_above(decided, 1);
-    if undecided < decided.len() {
+    if let Some(undecided) = bits::first_above(decided, 1) {
         return Err(Refusal::Majority(undecided));
     }
     match coding.kind {

@@ -36,13 +36,12 @@ module _ (s : Start) (n : ℕ) (known : s.args.modulation ≤ 2) (counted : n �
   length-used : length (used s) ≡ n
   length-used = ap length (sym taken) ∙ sym count
 
-  module _ (bad : ℕ) (found : bad ≡ first_above 1 (take n (all s))) where
-    lowest : bad ≡ first_above 1 (used s)
-    lowest = found ∙ ap (first_above 1) taken
+  lowest : (bad : ℕ) → bad ≡ first_above 1 (take n (all s)) → bad ≡ first_above 1 (used s)
+  lowest bad found = found ∙ ap (first_above 1) taken
 
-    -- past the second branch no bit is above 1
-    none : n ≤ bad → length (used s) ≤ first_above 1 (used s)
-    none h = omega (arith, length-used, lowest)
+  -- past the second branch no bit is above 1
+  none : length (take n (all s)) ≤ first_above 1 (take n (all s)) → length (used s) ≤ first_above 1 (used s)
+  none h = rw taken at h
 
 pub returns-then-modulation-gt2 : goal.returns-then-modulation-gt2
 returns-then-modulation-gt2 c = simp (lt-ltb _ _ c.if-modulation-gt2.true)
@@ -59,13 +58,13 @@ slice_bounds-first_above-end c = count (goal.at.slice_bounds-first_above-end c).
 pub slice_bounds-point_of-end : goal.slice_bounds-point_of-end
 slice_bounds-point_of-end c = count (goal.at.slice_bounds-point_of-end c).Start _ c.if-modulation-gt2.false c.carrier_bits-n.ensures
 
-pub returns-then-bad-n : goal.returns-then-bad-n
-returns-then-bad-n c =
-    let s = (goal.at.returns-then-bad-n c).Start in
-    let e : c.first_above-bad.result ≡ first_above 1 (used s)
-    = lowest s _ c.if-modulation-gt2.false c.carrier_bits-n.ensures _ c.first_above-bad.ensures in
+pub returns-in-Some : goal.returns-in-Some
+returns-in-Some c =
+    let s = (goal.at.returns-in-Some c).Start in
+    let e : c.in-Some.bad ≡ first_above 1 (used s)
+    = lowest s _ c.if-modulation-gt2.false c.carrier_bits-n.ensures _ c.in-Some.ensures.0 in
     let h : first_above 1 (used s) < length (used s)
-    = omega (arith, length-used s _ c.if-modulation-gt2.false c.carrier_bits-n.ensures, e, c.if-bad-n.true) in
+    = omega (arith, ap length (taken s _ c.if-modulation-gt2.false c.carrier_bits-n.ensures), e, c.in-Some.ensures.1) in
     ap (λ (k : ℕ). refused 6 k 0) e ∙ item_refused s.args.modulation (used s) c.if-modulation-gt2.false h
 
 pub point_of-requires : goal.point_of-requires
@@ -73,7 +72,7 @@ point_of-requires c =
     let s = (goal.at.point_of-requires c).Start in
     let known = c.if-modulation-gt2.false in
     let counted = c.carrier_bits-n.ensures in
-    let least = none s _ known counted _ c.first_above-bad.ensures c.if-bad-n.false in
+    let least = none s _ known counted c.in_default.ensures in
     rw (taken s _ known counted)
     (omega arith, length-used s _ known counted ∙ counted, λ k h. let b : get_or (used s) k 0 ≤ 1 = none_above 1 (used s) least k h in omega arith)
 
@@ -82,6 +81,6 @@ returns c =
     let s = (goal.at.returns c).Start in
     let known = c.if-modulation-gt2.false in
     let counted = c.carrier_bits-n.ensures in
-    let least = none s _ known counted _ c.first_above-bad.ensures c.if-bad-n.false in
+    let least = none s _ known counted c.in_default.ensures in
     ap done (c.point_of.ensures ∙ ap (λ (l : List ℕ). point_of s.args.modulation (λ k. get_or l k 0)) (taken s _ known counted))
     ∙ point-reported s.args.modulation (used s) known least

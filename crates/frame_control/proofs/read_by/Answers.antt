@@ -29,13 +29,13 @@ returns-then-out-lt16 c =
       word = simp (long, short);
     }
 
-pub returns-then-bad-items : goal.returns-then-bad-items
+pub returns-in-Some : goal.returns-in-Some
 unfolding read_by
-returns-then-bad-items c =
+returns-in-Some c =
     let long = eq-eqb _ _ (rw c.item_count.ensures at c.if-items-item_count.false) in
     let room = le-ltb _ 16 c.if-out-lt16.false in
-    let first = c.first_above-bad.ensures in
-    let bad = lt-ltb _ _ (rw first at c.if-bad-items.true) in
+    let first = c.in-Some.ensures.0 in
+    let bad = lt-ltb _ _ (rw first at c.in-Some.ensures.1) in
     record {
       answer = rw first (simp (long, room, bad));
       word = simp (long, room, bad);
@@ -51,7 +51,7 @@ returns c =
     let a = c.args in
     let long = eq-eqb _ _ (rw c.item_count.ensures at c.if-items-item_count.false) in
     let room = le-ltb _ _ c.if-out-lt16.false in
-    let legal = le-ltb _ _ (rw c.first_above-bad.ensures at c.if-bad-items.false) in
+    let legal = le-ltb _ _ c.in_default.ensures in
     let read = sym (read-decided a.symbols.now.carriers a.symbols.now.offsets.now a.taps a.items.now a.out.now _ (ap not long, (room, (legal, tt))) c.decide-decided.ensures) in
     record {
       answer = c.recover.ensures.answer ∙ ap (λ o. o.report) read;

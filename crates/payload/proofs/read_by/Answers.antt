@@ -58,11 +58,11 @@ returns-then-out-size c =
       bytes = ap (λ (o : Outcome ℕ (List ℕ)). o.out) law;
     }
 
-pub returns-then-illegal-items : goal.returns-then-illegal-items
-returns-then-illegal-items c =
-    let illegal = c.first_above-illegal.ensures in
-    let size = size_is (goal.at.returns-then-illegal-items c).After-block_bytes-size in
-    let law = sym (read-item c.args.c.now c.args.items.now c.args.out.now (long (goal.at.returns-then-illegal-items c).Else-items-item_count) (rw size at c.if-out-size.false) (rw illegal at c.if-illegal-items.true)) in
+pub returns-in-Some : goal.returns-in-Some
+returns-in-Some c =
+    let illegal = c.in-Some.ensures.0 in
+    let size = size_is (goal.at.returns-in-Some c).After-block_bytes-size in
+    let law = sym (read-item c.args.c.now c.args.items.now c.args.out.now (long (goal.at.returns-in-Some c).Else-items-item_count) (rw size at c.if-out-size.false) (rw illegal at c.in-Some.ensures.1)) in
     record {
       answer = rw illegal (ap (λ (o : Outcome ℕ (List ℕ)). o.report) law);
       bytes = ap (λ (o : Outcome ℕ (List ℕ)). o.out) law;
@@ -72,7 +72,7 @@ pub returns : goal.returns
 returns c =
     let (k, r, t) = c.of-plan.ensures.coding in
     let size = size_is (goal.at.returns c).After-block_bytes-size in
-    let law = sym (read-decided c.args.c.now c.args.items.now c.args.out.now (long (goal.at.returns c).Else-items-item_count) (rw size at c.if-out-size.false) (rw c.first_above-illegal.ensures at c.if-illegal-items.false)) in
+    let law = sym (read-decided c.args.c.now c.args.items.now c.args.out.now (long (goal.at.returns c).Else-items-item_count) (rw size at c.if-out-size.false) c.in_default.ensures) in
     record {
       answer = (rw (c.of-plan.ensures.layout, k, r, t) at c.read_items.ensures.answer) ∙ ap (λ (o : Outcome ℕ (List ℕ)). o.report) law;
       bytes = (rw (c.of-plan.ensures.layout, k, r, t) at c.read_items.ensures.bytes) ∙ ap (λ (o : Outcome ℕ (List ℕ)). o.out) law;
