@@ -49,9 +49,6 @@ doubled-at taps half i table d h = let (j, l, e) = d.bit in rw e (sym (word-doub
 abbrev pub Stacked : (ℕ → ℕ) → ℕ → ℕ → Type 0
 Stacked e s n = (n < 2 ^ (8 * (8 - s))) × ((k : ℕ) → s ≤ k → k < 8 → n / 2 ^ (8 * (k - s)) % 256 ≡ e k)
 
-pub stacked-none : (e : ℕ → ℕ) → Stacked e 8 0
-stacked-none e = (lit< tt, λ k l h. absurd (omega arith))
-
 module _ (e : ℕ → ℕ) (s n v : ℕ) (h : 0 < s) (st : Stacked e s n) (l : v < 256) (m : s ≤ 8) where
   stacked-lt : n * 256 + v < 2 ^ (8 * (8 - (s - 1)))
   stacked-lt = let z : 8 * (8 - (s - 1)) ≡ 8 * (8 - s) + 8 = omega arith in rw (z, pow-add 2 (8 * (8 - s)) 8) (omega (arith, st.0))
@@ -71,16 +68,13 @@ module _ (e : ℕ → ℕ) (s n v : ℕ) (h : 0 < s) (st : Stacked e s n) (l : v
           let y : (n * 256 + v) / 256 ≡ n = omega arith in
           rw (z, ← shr-shr (n * 256 + v) 8 (8 * (k - s)), y) (st.1 k f d)
 
-pub stacked-all : (e : ℕ → ℕ) (s n : ℕ) → s ≡ 0 → Stacked e s n → (k : ℕ) → k < 8 → n / 2 ^ (8 * k) % 256 ≡ e k
-stacked-all e s n q st k h = let z : k ≡ k - s = omega arith in ap (λ (m : ℕ). n / 2 ^ (8 * m) % 256) z ∙ st.1 k (omega arith) h
-
 -- ---- a byte
 
 -- what the byte zero does to a state, and the byte to the state zero, give what the byte does to the state
 module _ (taps s b x n : ℕ) (hs : s < 8) (hx : x ≡ byte_word taps 0 b) where
-  word-sum : bit_xor (byte_word taps s 0) x ≡ parities taps (pair_in b) s 4 * 256 + state_at taps (pair_in b) s 4 * 8
+  word_sum : bit_xor (byte_word taps s 0) x ≡ parities taps (pair_in b) s 4 * 256 + state_at taps (pair_in b) s 4 * 8
   unfolding byte_word
-  word-sum = ap (bit_xor (byte_word taps s 0)) hx ∙ sym (word-parts taps s b hs)
+  word_sum = ap (bit_xor (byte_word taps s 0)) hx ∙ sym (word-parts taps s b hs)
 
   pub state-after : StatesBy taps n → (a : ℕ) → a ≡ s * 8 → bit_xor (n / 2 ^ a) x / 8 % 8 * 8 ≡ state_at taps (pair_in b) s 4 * 8
   state-after by a ha =
@@ -89,7 +83,7 @@ module _ (taps s b x n : ℕ) (hs : s < 8) (hx : x ≡ byte_word taps 0 b) where
       xor_mod (n / 2 ^ a) x 8
       ∙ ap (λ (k : ℕ). bit_xor k (x % 256)) (ap (λ (k : ℕ). n / 2 ^ k % 256) z ∙ by s hs)
       ∙ sym (xor_mod (byte_word taps s 0) x 8) in
-      omega (arith, m, word-sum, state-lt taps (pair_in b) s hs 4)
+      omega (arith, m, word_sum, state-lt taps (pair_in b) s hs 4)
 
   pub parities-after : ParitiesBy taps n → (a : ℕ) → a ≡ s * 8 → bit_xor (n / 2 ^ a % 256) (x / 256) ≡ parities taps (pair_in b) s 4
   parities-after by a ha =
@@ -97,7 +91,7 @@ module _ (taps s b x n : ℕ) (hs : s < 8) (hx : x ≡ byte_word taps 0 b) where
       let m : bit_xor (n / 2 ^ a % 256) (x / 256) ≡ bit_xor (byte_word taps s 0) x / 256 =
       ap (λ (k : ℕ). bit_xor k (x / 256)) (ap (λ (k : ℕ). n / 2 ^ k % 256) z ∙ by s hs)
       ∙ sym (xor_shr (byte_word taps s 0) x 8) in
-      omega (arith, m, word-sum, state-lt taps (pair_in b) s hs 4)
+      omega (arith, m, word_sum, state-lt taps (pair_in b) s hs 4)
 
 -- ---- a byte of the block
 

@@ -41,14 +41,14 @@ module _ {A : Type 0} where
     inside : size * length xs ≤ length ys
     inside = omega (arith, (so_far xs s t y).2, ap (λ (k : ℕ). k * length xs) each, ap length whole)
 
-    pub chunk-turn : (x : Bor (List A)) → r ≡ Some x → chunks_exact_steps t r u
+    pub chunks-turn : (x : Bor (List A)) → r ≡ Some x → chunks_exact_steps t r u
         → (x.now ≡ take size (drop (size * length xs) ys)) × (size * length xs + size ≤ length ys)
-    chunk-turn x e h =
+    chunks-turn x e h =
         let (z, b, n) = one t u r x e h in
         let l : length x.now ≡ size = n ∙ (so_far xs s t y).0 ∙ each in (
           sym (ap (λ (k : ℕ). take k (drop (size * length xs) ys)) (sym l) ∙ ap (take (length x.now)) (sym rest ∙ b) ∙ take-append_seam x.now (chunks_exact_rest u)),
           omega (arith, inside, l, ap length (sym rest ∙ b), length-append x.now (chunks_exact_rest u), length-drop (size * length xs) ys),
         )
 
-    pub chunk-end : r ≡ None → chunks_exact_steps t r u → (size * length xs ≤ length ys) × (length ys < size * length xs + size)
-    chunk-end e h = (inside, omega (arith, inside, none t u r e h, (so_far xs s t y).0, each, ap length rest, length-drop (size * length xs) ys))
+    pub chunks-end : r ≡ None → chunks_exact_steps t r u → (size * length xs ≤ length ys) × (length ys < size * length xs + size)
+    chunks-end e h = (inside, omega (arith, inside, none t u r e h, (so_far xs s t y).0, each, ap length rest, length-drop (size * length xs) ys))

@@ -6,7 +6,7 @@ use native.Mathlib.Omega.{arith}
 use lib.ListN.{length, take, drop, length-drop}
 use lib.Seq.{take-length}
 use Rattle.std.proofs.lemmas.List.{length_push}
-use Rattle.constituent.proofs.ChunkLaws.{chunk-turn, chunk-end}
+use Rattle.constituent.proofs.ChunkLaws.{chunks-turn, chunks-end}
 use Rattle.constituent.proofs.FoldLaws.{folded-none, folded-next, folded-all}
 use Rattle.constituent.proofs.fold.Goals as goal
 
@@ -16,7 +16,7 @@ loop-chunk-init c = folded-none _ _ c.requires
 pub loop-chunk-preserved : goal.loop-chunk-preserved
 loop-chunk-preserved c =
     let l = c.loop-chunk in
-    let (e, inside) = chunk-turn 56 c.args.bytes.now l.yielded c.into_iter-chunk-iterator.result _ _ _ (cc) (cc) l.yielded_by c.in-Some.chunk c.in-Some.is c.next.ensures.steps in
+    let (e, inside) = chunks-turn 56 c.args.bytes.now l.yielded c.into_iter-chunk-iterator.result _ _ _ (cc) (cc) l.yielded_by c.in-Some.chunk c.in-Some.is c.next.ensures.steps in
     let q : 56 * length l.yielded + 56 ≡ 56 * (length l.yielded + 1) = omega arith in
     rw (length_push, ← q) (folded-next c.args.bytes.now _ _ _ _ 56 l.invariant e inside (omega arith) c.add_bytes.ensures refl)
 
@@ -25,7 +25,7 @@ returns c =
     let l = c.loop-chunk in
     let bytes = c.args.bytes.now in
     let at : ℕ = 56 * length l.yielded in
-    let k = chunk-end 56 bytes l.yielded c.into_iter-chunk-iterator.result _ _ _ (cc) (cc) l.yielded_by c.in-None.is c.next.ensures.steps in
+    let k = chunks-end 56 bytes l.yielded c.into_iter-chunk-iterator.result _ _ _ (cc) (cc) l.yielded_by c.in-None.is c.next.ensures.steps in
     let z : length bytes - length bytes % 56 ≡ at = omega arith in
     let n : length bytes - at ≡ length (drop at bytes) = sym (length-drop at bytes) in
     let e : c.remainder-rest.result.now ≡ take (length bytes - at) (drop at bytes) =
