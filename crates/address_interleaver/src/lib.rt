@@ -57,7 +57,7 @@ fn fill_interleaver(step: usize, k: usize, base: usize, out: &mut [u16])
     }
 }
 
-// The addresses of `count` interleavers, side by side.
+// The addresses of `count` interleavers, side by side. The layout that has these numbers is of a crate above.
 pub fn fill_table(interleavers: usize, span: usize, step: usize, count: usize, out: &mut [u16])
     requires { (0 < interleavers) × (0 < span) × (step ≤ 2) × (count * span ≤ 410) × (interleavers * span ≤ 410) × (count * span ≤ length out.old) }
     ensures { out.new ≡ written (count * span) (address_of interleavers span step) out.old }
