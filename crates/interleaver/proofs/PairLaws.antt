@@ -32,9 +32,9 @@ module _ (L : Shape) (S : Orderly L) (P : Paired L) where
   pair-parity : (p : ℕ) → (is_parity L (p * 2 + 1) ≡ true) × (group_of L (p * 2 + 1) ≡ p)
   pair-parity p = (grind (arith, nat_tests, P.group-is, P.lead_is), grind (arith, P.group-is))
 
-  pub pair-at : (p row pass : ℕ) → OnPass L.rows L.step p pass row → pass < L.step → row < L.rows → Pair L p row
-  pair-at p row pass o hj h =
-      let (at, l) = row-at L.rows L.step S.step-pos p pass row o hj h in
+  pub pair-at : (p row : ℕ) → OnPass L.rows L.step p row → row < L.rows → Pair L p row
+  pair-at p row o h =
+      let (at, l) = row-at L.rows L.step S.step-pos p row o h in
       let (t, d) = pair-data p in
       let (u, g) = pair-parity p in
       let moved : parity_row L (group_of L (p * 2 + 1)) ≡ moved_row L.rows L.offset row =

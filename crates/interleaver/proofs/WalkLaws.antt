@@ -1,7 +1,7 @@
 -- The orders of rows, place by place. Assumes nothing.
 use mathlib.Core.Path.{◌≡◌, refl, sym, ap, ◌∙◌}
 use Prim.Native.Nat.{ℕ, zero, suc, ◌+◌, ◌-◌, ◌*◌, ◌/◌, ◌%◌, ◌<◌, ◌≤◌}
-use native.Mathlib.Nat.{mod-lt, mod-eq_of_lt, mod-add-mod, div-add-mod', mul_comm, suc-mul, add-mul, mul-le-mul_right, le-mul_of_pos_right}
+use native.Mathlib.Nat.{add-mod_right, add-div_right, div-eq_of_lt, mod-lt, mod-eq_of_lt, mod-add-mod, div-add-mod', mul_comm, suc-mul, add-mul, mul-le-mul_right, le-mul_of_pos_right}
 use native.Mathlib.Omega.{arith}
 use lib.ListN.{length}
 use Rattle.bits.proofs.NumberLaws.{lt-cases}
@@ -32,41 +32,42 @@ module _ (R s : ℕ) (pos : zero < s) where
   unfolding passes
   passes_none = refl
 
-  pub on-start : (j : ℕ) → j ≤ s → j < R + s → OnPass R s (length (passes R s j)) j j
-  on-start j h near =
-      record { taken = zero; pass_le = h; place_is = omega arith; row_is = omega arith; row_near = near }
+  -- the first row of a pass, and the row after one of it
+  pub on-start : (j : ℕ) → j < s → OnPass R s (length (passes R s j)) j
+  on-start j h =
+      record { place_is = rw (mod-eq_of_lt h, div-eq_of_lt h) (omega arith); row_near = omega arith }
 
-  pub pass_on : (p j row : ℕ) → OnPass R s p j row → row < R → OnPass R s (p + 1) j (row + s)
-  pass_on p j row o h =
-      record {
-        taken = o.taken + 1;
-        pass_le = o.pass_le;
-        place_is = omega (arith, o.place_is);
-        row_is = omega (arith, o.row_is, add-mul o.taken 1 s);
-        row_near = omega arith;
-      }
+  pub pass_on : (p row : ℕ) → OnPass R s p row → row < R → OnPass R s (p + 1) (row + s)
+  pass_on p row o h =
+      record { place_is = rw (add-mod_right row s, add-div_right row pos) (omega (arith, o.place_is)); row_near = omega arith }
 
   -- the first row past the end ends the pass
-  pub pass-end : (p j row : ℕ) → OnPass R s p j row → j < s → R ≤ row → p ≡ length (passes R s (j + 1))
-  pass-end p j row o hj h =
-      let k = o.taken in
+  pub pass-end : (p row : ℕ) → OnPass R s p row → R ≤ row → p ≡ length (passes R s (row % s + 1))
+  pass-end p row o h =
+      let j = row % s in
+      let k = row / s in
+      let hj : j < s = mod-lt row pos in
+      let is : row ≡ j + k * s = omega (arith, div-add-mod' row s) in
       let (c, len, end, next, at) = pass-is R s pos j hj in
       let below : (i : ℕ) → i < k → j + i * s < R =
-      λ i b. omega (arith, o.row_is, o.row_near, suc-mul i s, mul-le-mul_right {m = suc i} {n = k} s b) in
+      λ i b. omega (arith, is, o.row_near, suc-mul i s, mul-le-mul_right {m = suc i} {n = k} s b) in
       let small : k ≤ R = lt-cases zero k
       (λ b. omega (arith, below (k - 1) (omega arith), le-mul_of_pos_right (k - 1) pos))
       (λ b. omega arith) in
-      let e : k ≡ c = sym (length-is R s pos j k small below (omega (arith, o.row_is))) ∙ len in
+      let e : k ≡ c = sym (length-is R s pos j k small below (omega (arith, is))) ∙ len in
       omega (arith, o.place_is, start_is j (omega arith), start_is (j + 1) (omega arith))
 
-  pub row-at : (p j row : ℕ) → OnPass R s p j row → j < s → row < R → (pass_row R s p ≡ row) × (p < R)
-  row-at p j row o hj h =
-      let k = o.taken in
+  pub row-at : (p row : ℕ) → OnPass R s p row → row < R → (pass_row R s p ≡ row) × (p < R)
+  row-at p row o h =
+      let j = row % s in
+      let k = row / s in
+      let hj : j < s = mod-lt row pos in
+      let is : row ≡ j + k * s = omega (arith, div-add-mod' row s) in
       let (c, len, end, next, at) = pass-is R s pos j hj in
-      let b : k < c = lt-cases k c (λ b. b) (λ b. absurd (omega (arith, o.row_is, mul-le-mul_right {m = c} {n = k} s b))) in
+      let b : k < c = lt-cases k c (λ b. b) (λ b. absurd (omega (arith, is, mul-le-mul_right {m = c} {n = k} s b))) in
       let e : p ≡ pass_start R s j + k = o.place_is ∙ ap (λ (x : ℕ). x + k) (start_is j (omega arith)) in
       let l : p < R = omega (arith, start-le (suc j) hj) in
-      (pass-row R s pos p l ∙ ap (row_at R s) e ∙ at k b ∙ sym o.row_is, l)
+      (pass-row R s pos p l ∙ ap (row_at R s) e ∙ at k b ∙ sym is, l)
 
 -- the row after that at place p, where reading goes on without a restart
 pub continuous-next : (R step offset p : ℕ) → moved_row R step (continuous_row R step offset p) ≡ continuous_row R step offset (p + 1)

@@ -27,12 +27,11 @@ struct Stand {
     row: usize,
 }
 
-// Where a run of pairs stands: its next nibble, that nibble's row, and the pass.
+// Where a run of a pass stands: its next nibble, and that nibble's row.
 #[derive(Clone, Copy)]
 struct Run {
     nibble: usize,
     row: usize,
-    pass: usize,
 }
 
 // A row moved up, modulo the number of rows. A division here makes a block at rate 16/18 slower, by 13 percent out and by 40 percent back.
@@ -102,7 +101,8 @@ impl Block<'_> {
     fn move_data<const BACK: bool>(&self, start: Run, end: usize, to: &mut [u8]) -> Run
         requires { (coded_of self.now.shape ≤ length to.old) × DataRun self.now.shape start end }
         ensures stands { (start.nibble ≤ result.nibble) × (result.nibble ≤ self.now.shape.rows + self.now.shape.parity)
-            × (OnPass self.now.shape.rows self.now.shape.step (data_place self.now.shape result.nibble) start.pass result.row) × (end ≤ result.row)
+            × (OnPass self.now.shape.rows self.now.shape.step (data_place self.now.shape result.nibble) result.row)
+            × (result.row % self.now.shape.step ≡ start.row % self.now.shape.step) × (end ≤ result.row)
             × (parity_place self.now.shape result.nibble ≡ parity_place self.now.shape start.nibble)
             × (until_parity self.now.shape result.nibble + result.nibble ≡ until_parity self.now.shape start.nibble + start.nibble) }
         ensures moved { to.new ≡ carried self.now.shape BACK self.now.from.now start.nibble result.nibble to.old }
@@ -132,7 +132,6 @@ impl Block<'_> {
             let first = Run {
                 nibble: data.nibble,
                 row,
-                pass,
             };
             let end = self.shape.rows.min(row + data.left * self.shape.step);
             let last = self.move_data::<BACK>(first, end, to);
@@ -168,7 +167,7 @@ impl Block<'_> {
     // data row. One walk for this and `move_data` would promise either what `DataRun` leads to or what `PairRun` does, by a flag.
     fn move_run<const BACK: bool>(&self, start: Run, end: usize, apart: usize, to: &mut [u8]) -> Run
         requires { (coded_of self.now.shape ≤ length to.old) × PairRun self.now.shape start end apart }
-        ensures stands { (start.nibble ≤ result.nibble) × (Runs self.now.shape result) × (result.pass ≡ start.pass) × (end ≤ result.row) }
+        ensures stands { (start.nibble ≤ result.nibble) × (Runs self.now.shape result) × (result.row % self.now.shape.step ≡ start.row % self.now.shape.step) × (end ≤ result.row) }
         ensures moved { to.new ≡ carried self.now.shape BACK self.now.from.now start.nibble result.nibble to.old }
     {
         let mut at = start;
@@ -192,11 +191,7 @@ impl Block<'_> {
         let before = self.shape.rows + self.shape.offset;
         let mut nibble: usize = 0;
         for pass in 0..self.shape.step {
-            let start = Run {
-                nibble,
-                row: pass,
-                pass,
-            };
+            let start = Run { nibble, row: pass };
             let past = self.move_run::<BACK>(start, bend, before, to);
             let last = self.move_run::<BACK>(past, self.shape.rows, self.shape.offset, to);
             nibble = last.nibble;

@@ -30,10 +30,9 @@ pub record BeforePass (L : Shape) (pass : ℕ) (s : Stand) : Type 0 where
 
 -- Data nibbles of a pass follow up to row `end`, with no parity nibble among them.
 pub record DataRun (L : Shape) (s : Run) (end : ℕ) : Type 0 where
-  pub pass-lt : s.pass < L.step
   pub end-le : end ≤ L.rows
   pub within : s.nibble ≤ L.rows + L.parity
-  pub on-pass : OnPass L.rows L.step (data_place L s.nibble) s.pass s.row
+  pub on-pass : OnPass L.rows L.step (data_place L s.nibble) s.row
   pub no-parity : end ≤ s.row + until_parity L s.nibble * L.step
 
 -- Pairs of a pass follow up to row `end`, the parity row of each `apart` after its data row.

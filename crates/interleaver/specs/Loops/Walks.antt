@@ -1,17 +1,14 @@
 -- Where a pass stands, where the joined stream does, and where a run of pairs does. Only loops cite it. Assumes nothing.
-use Rattle.std.specs.Prelude.{◌≡◌, cond, ℕ, ◌+◌, ◌-◌, ◌*◌, ◌<◌, ◌≤◌, ltb, length}
+use Rattle.std.specs.Prelude.{◌≡◌, cond, ℕ, ◌+◌, ◌-◌, ◌*◌, ◌/◌, ◌%◌, ◌<◌, ◌≤◌, ltb, length}
 use Rattle.interleaver_shape.specs.declared.Shape.{Shape}
 use Rattle.interleaver.specs.declared.Stand.{Stand}
 use Rattle.interleaver.specs.declared.Run.{Run}
 use Rattle.interleaver.specs.Rows.{passes, continuous_row}
 use Rattle.interleaver.specs.Source.{group_of, place_in}
 
--- Place p of the passes is the `taken`-th of pass j, at this row, which may be the first past the end.
-pub record OnPass (R step p j row : ℕ) : Type 0 where
-  pub taken : ℕ
-  pub pass_le : j ≤ step
-  pub place_is : p ≡ length (passes R step j) + taken
-  pub row_is : row ≡ j + taken * step
+-- Place p of the passes is at this row, which may be the first past the end: the row / step th of pass row % step.
+pub record OnPass (R step p row : ℕ) : Type 0 where
+  pub place_is : p ≡ length (passes R step (row % step)) + row / step
   pub row_near : row < R + step
 
 -- how many parity nibbles come before nibble n, and how many data nibbles come from it on before the next parity nibble
@@ -31,5 +28,4 @@ pub record Stands (L : Shape) (s : Stand) : Type 0 where
 pub record Runs (L : Shape) (s : Run) : Type 0 where
   pub place : ℕ
   pub nibble-is : s.nibble ≡ place * 2
-  pub pass-lt : s.pass < L.step
-  pub on-pass : OnPass L.rows L.step place s.pass s.row
+  pub on-pass : OnPass L.rows L.step place s.row

@@ -2,7 +2,7 @@
 use mathlib.Core.Path.{◌≡◌, refl, ap, ◌∙◌}
 use mathlib.Core.Bool.{false}
 use Prim.Native.Nat.{ℕ, ◌+◌, ◌*◌, ◌<◌}
-use native.Mathlib.Nat.{add-mul}
+use native.Mathlib.Nat.{add-mul, add-mod_right}
 use native.Mathlib.Omega.{arith}
 use Rattle.bits.proofs.NumberLaws.{lt-cases}
 use Rattle.interleaver.specs.Rows.{pass_row}
@@ -30,7 +30,7 @@ next g c =
     lt-cases 0 u (λ h. h)
     (λ h. let z : u ≡ 0 = omega arith in absurd (omega (arith, c.loop-at-test.true, run.no-parity, ap (λ (x : ℕ). x * l.step) z))) in
     let (row, place) =
-    row-at l.rows l.step c.args.self.now.orderly.step-pos (data_place l c.loop-at.at.nibble) c.loop-at.at.pass c.loop-at.at.row run.on-pass run.pass-lt (omega arith) in
+    row-at l.rows l.step c.args.self.now.orderly.step-pos (data_place l c.loop-at.at.nibble) c.loop-at.at.row run.on-pass (omega arith) in
     (some, data-due l c.args.self.now.orderly c.loop-at.at.nibble some, row, stream-on l c.args.self.now.orderly c.loop-at.at.nibble place)
 
 pub loop-at-init : goal.loop-at-init
@@ -62,13 +62,12 @@ loop-at-preserved g c =
     record {
       up = omega arith;
       run = record {
-        pass-lt = i.run.pass-lt;
         end-le = i.run.end-le;
         within = omega arith;
-        on-pass = rw on at (pass_on l.rows l.step c.args.self.now.orderly.step-pos (data_place l n) c.loop-at.at.pass c.loop-at.at.row i.run.on-pass (omega arith));
+        on-pass = rw on at (pass_on l.rows l.step c.args.self.now.orderly.step-pos (data_place l n) c.loop-at.at.row i.run.on-pass (omega arith));
         no-parity = omega (arith, add-mul (until_parity l (n + 1)) 1 l.step, ap (λ (y : ℕ). y * l.step) down);
       };
-      same-pass = i.same-pass;
+      same-pass = add-mod_right c.loop-at.at.row l.step ∙ i.same-pass;
       same-place = parity ∙ i.same-place;
       same-parity = omega (arith, i.same-parity, down);
       moved = carried-join _ _ _ c.args.start.nibble n (n + 1) _ _ _ i.moved (carried-one l _ _ n c.loop-at.at.row _ _ row c.move_nibble.ensures) i.up (omega arith);

@@ -1,6 +1,7 @@
 -- `interleaver::Block::move_pairs` meets its contract. The invariant: the pairs of the passes before this one are carried. Assumes nothing.
 use mathlib.Core.Path.{◌≡◌, ap, ◌∙◌}
 use Prim.Native.Nat.{ℕ, ◌+◌, ◌*◌}
+use native.Mathlib.Nat.{mod-eq_of_lt}
 use native.Mathlib.Omega.{arith}
 use lib.ListN.{length}
 use Rattle.interleaver.specs.Rows.{passes}
@@ -29,8 +30,7 @@ move_run-past-requires g c =
         runs = record {
           place = length (passes l.rows l.step c.loop-pass.pass);
           nibble-is = c.loop-pass.invariant.place;
-          pass-lt = c.loop-pass-test.true;
-          on-pass = on-start l.rows l.step c.args.self.now.orderly.step-pos c.loop-pass.pass c.loop-pass.auto.pass-end (omega arith);
+          on-pass = on-start l.rows l.step c.args.self.now.orderly.step-pos c.loop-pass.pass c.loop-pass-test.true;
         };
         end-le = omega arith;
         apart-is = λ row h b. omega (arith, moved-within l.rows l.offset row (omega arith));
@@ -57,10 +57,10 @@ loop-pass-preserved g c =
     let l = c.args.self.now.shape in
     let last = c.move_run-last.result in
     let (up, runs, same, end) = c.move_run-last.ensures.stands in
-    let pass : last.pass + 1 ≡ c.loop-pass.pass + 1 = ap (λ (k : ℕ). k + 1) (same ∙ c.move_run-past.ensures.stands.2) in
+    let pass = same ∙ c.move_run-past.ensures.stands.2 ∙ mod-eq_of_lt c.loop-pass-test.true in
     let place =
-    pass-end l.rows l.step c.args.self.now.orderly.step-pos runs.place last.pass last.row runs.on-pass runs.pass-lt end
-    ∙ ap (λ (k : ℕ). length (passes l.rows l.step k)) pass in
+    pass-end l.rows l.step c.args.self.now.orderly.step-pos runs.place last.row runs.on-pass end
+    ∙ ap (λ (k : ℕ). length (passes l.rows l.step (k + 1))) pass in
     record {
       place = runs.nibble-is ∙ ap (λ (k : ℕ). k * 2) place;
       moved = carried-join _ _ _ 0 c.move_run-past.result.nibble last.nibble _ _ _

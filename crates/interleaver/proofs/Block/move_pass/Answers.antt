@@ -2,9 +2,10 @@
 -- before it are carried. Assumes nothing.
 use mathlib.Core.Path.{◌≡◌, sym, ap, ◌∙◌}
 use Prim.Native.Nat.{ℕ, ◌+◌, ◌*◌, ◌<◌, ◌≤◌}
-use native.Mathlib.Nat.{one-mul, mul-le-mul, mul-le-mul_right}
+use native.Mathlib.Nat.{mod-eq_of_lt, one-mul, mul-le-mul, mul-le-mul_right}
 use native.Mathlib.Omega.{arith}
-use Rattle.interleaver.specs.Rows.{continuous_row}
+use lib.ListN.{length}
+use Rattle.interleaver.specs.Rows.{passes, continuous_row}
 use Rattle.interleaver.specs.Source.{data_place}
 use Rattle.interleaver.proofs.WalkLaws.{on-start, pass-end, row-at}
 use Rattle.interleaver.proofs.StreamLaws.{until-le, parity-passed, stream-on}
@@ -25,7 +26,7 @@ reach g c =
     let (m, stands, some) = c.move_parity-data.ensures.stands in
     let left = c.move_parity-data.result.left in
     let (row, place) =
-    row-at l.rows l.step block.orderly.step-pos (data_place l n) c.args.pass c.loop-row.row c.loop-row.invariant.on-pass c.requires.2.pass-lt c.loop-row-test.true in
+    row-at l.rows l.step block.orderly.step-pos (data_place l n) c.loop-row.row c.loop-row.invariant.on-pass c.loop-row-test.true in
     let e = parity-passed l block.orderly n c.move_parity-data.result.nibble m in
     let h : left ≤ 65535 = omega (arith, stands.left_is, until-le l block.orderly c.move_parity-data.result.nibble, block.small.group-lt) in (
       e,
@@ -38,7 +39,8 @@ pub loop-row-init : goal.loop-row-init
 loop-row-init g c =
     let l = c.args.self.now.shape in
     record {
-      on-pass = rw c.requires.2.place_is (on-start l.rows l.step c.args.self.now.orderly.step-pos c.args.pass (omega arith) (omega arith));
+      on-pass = rw c.requires.2.place_is (on-start l.rows l.step c.args.self.now.orderly.step-pos c.args.pass c.requires.2.pass-lt);
+      same-pass = mod-eq_of_lt c.requires.2.pass-lt;
       stands = c.requires.2.stands;
       up = omega arith;
       moved = carried_none _ _ _ _ _;
@@ -49,7 +51,7 @@ move_parity-data-requires g c =
     let l = c.args.self.now.shape in
     let orderly = c.args.self.now.orderly in
     let n = c.loop-row.at.nibble in
-    let (row, place) = row-at l.rows l.step orderly.step-pos (data_place l n) c.args.pass c.loop-row.row c.loop-row.invariant.on-pass c.requires.2.pass-lt c.loop-row-test.true in
+    let (row, place) = row-at l.rows l.step orderly.step-pos (data_place l n) c.loop-row.row c.loop-row.invariant.on-pass c.loop-row-test.true in
     (omega arith, c.requires.1, c.loop-row.invariant.stands, stream-on l orderly n place)
 
 pub overflow_mul-data : goal.overflow_mul-data
@@ -64,7 +66,6 @@ move_data-last-requires g c =
     let (place, n, far, left) = reach g (goal.at.move_data-last-requires g c).After-move_parity-data in (
       omega arith,
       record {
-        pass-lt = c.requires.2.pass-lt;
         end-le = omega (arith, c.min-end.ensures);
         within = omega arith;
         on-pass = rw place c.loop-row.invariant.on-pass;
@@ -80,16 +81,17 @@ loop-row-smaller g c =
     let step = c.args.self.now.shape.step in
     let left = c.move_parity-data.result.left in
     let some : step ≤ left * step = omega (arith, one-mul step, mul-le-mul_right {m = 1} {n = left} step c.move_parity-data.ensures.stands.2) in
-    omega (arith, c.move_data-last.ensures.stands.3, c.min-end.ensures, c.args.self.now.orderly.step-pos)
+    omega (arith, c.move_data-last.ensures.stands.4, c.min-end.ensures, c.args.self.now.orderly.step-pos)
 
 pub loop-row-preserved : goal.loop-row-preserved
 loop-row-preserved g c =
     let l = c.args.self.now.shape in
     let i = c.loop-row.invariant in
     let (m, parity, some) = c.move_parity-data.ensures.stands in
-    let (up, within, on-pass, end, place, until) = c.move_data-last.ensures.stands in
+    let (up, within, on-pass, same, end, place, until) = c.move_data-last.ensures.stands in
     record {
       on-pass = on-pass;
+      same-pass = same ∙ i.same-pass;
       stands = record {
         within = within;
         left_is = omega (arith, until, parity.left_is);
@@ -109,7 +111,8 @@ returns g c =
       stands = (
         i.up,
         i.stands,
-        pass-end l.rows l.step c.args.self.now.orderly.step-pos (data_place l c.loop-row.at.nibble) c.args.pass c.loop-row.row i.on-pass c.requires.2.pass-lt c.loop-row-test.false,
+        pass-end l.rows l.step c.args.self.now.orderly.step-pos (data_place l c.loop-row.at.nibble) c.loop-row.row i.on-pass c.loop-row-test.false
+            ∙ ap (λ (k : ℕ). length (passes l.rows l.step (k + 1))) i.same-pass,
       );
       moved = i.moved;
     }

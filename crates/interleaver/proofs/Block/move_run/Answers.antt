@@ -1,6 +1,7 @@
 -- `interleaver::Block::move_run` meets its contract. Assumes nothing.
 use mathlib.Core.Path.{◌≡◌, refl, sym, ap, ◌∙◌}
 use Prim.Native.Nat.{ℕ, ◌+◌, ◌*◌, ◌<◌}
+use native.Mathlib.Nat.{add-mod_right}
 use native.Mathlib.Omega.{arith}
 use Rattle.interleaver_shape.specs.Shapes.{coded_of}
 use Rattle.interleaver.specs.Loops.RowOrder.{row_of}
@@ -20,7 +21,7 @@ next g c =
     let l = c.args.self.now.shape in
     let at = c.loop-at.invariant.runs in
     let row : c.loop-at.at.row < l.rows = omega (arith, c.requires.1.end-le) in
-    let pair = pair-at l c.args.self.now.orderly c.requires.1.paired at.place c.loop-at.at.row c.loop-at.at.pass at.on-pass at.pass-lt row in (
+    let pair = pair-at l c.args.self.now.orderly c.requires.1.paired at.place c.loop-at.at.row at.on-pass row in (
       pair,
       omega (arith, parity-is l c.args.self.now.orderly c.requires.1.paired),
       omega (arith, pair.2, at.nibble-is),
@@ -67,12 +68,11 @@ loop-at-preserved g c =
       runs = record {
         place = p + 1;
         nibble-is = omega (arith, i.runs.nibble-is);
-        pass-lt = i.runs.pass-lt;
-        on-pass = pass_on l.rows l.step c.args.self.now.orderly.step-pos p c.loop-at.at.pass c.loop-at.at.row i.runs.on-pass within;
+        on-pass = pass_on l.rows l.step c.args.self.now.orderly.step-pos p c.loop-at.at.row i.runs.on-pass within;
       };
       up = omega arith;
       down = omega arith;
-      same-pass = i.same-pass;
+      same-pass = add-mod_right c.loop-at.at.row l.step ∙ i.same-pass;
       moved = carried-join _ _ _ c.args.start.nibble (n + 1) (n + 2) _ _ _
           (carried-join _ _ _ c.args.start.nibble n (n + 1) _ _ _ i.moved (carried-one l _ _ n c.loop-at.at.row _ _ row c.move_word.ensures) i.up (omega arith))
           (rw two at (carried-one l _ _ (n + 1) (c.args.apart + c.loop-at.at.row) _ _ parity c.move_word-in-loop-at.ensures))
