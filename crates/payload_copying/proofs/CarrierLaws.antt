@@ -1,14 +1,32 @@
 -- Laws of carriers that are copied, bit by bit and one after another. Assumes nothing.
-use mathlib.Core.Path.{◌≡◌, sym, ap, ap₂, ◌∙◌}
+use mathlib.Core.Path.{◌≡◌, refl, sym, ap, ap₂, ◌∙◌}
 use mathlib.Core.List.{List}
 use Prim.Native.Nat.{ℕ, ◌+◌, ◌-◌, ◌*◌, ◌/◌, ◌%◌, ◌<◌, ◌≤◌}
 use native.Mathlib.Omega.{arith}
 use lib.Arith.{digits_div, digits_mod}
-use lib.ListN.{length, get_or}
+use lib.ListN.{length, get_or, set, length-set}
+use lib.Seq.{get_or-set_same, get_or-set_other}
 use Rattle.bits.specs.Lists.{written}
 use Rattle.bits.proofs.NumberLaws.{lt-cases, row_next}
 use Rattle.bits.proofs.ListLaws.{written_of, written_all, get_or-written, get_or-kept}
 use Rattle.payload_copying.specs.Loops.Slots.{Copied, taken}
+
+module _ (src : List ℕ) (from to : ℕ) (out : List ℕ) where
+  pub copied_none : Copied 0 src from to out out
+  copied_none =
+      record { long = refl; put = λ e h. absurd (omega arith); under = λ i h. refl; over = λ i h. refl }
+
+  pub copied_next : (n : ℕ) (now : List ℕ) → Copied n src from to out now → to + n < length out
+      → Copied (n + 1) src from to out (set now (to + n) (get_or src (from + n) 0))
+  copied_next n now c h =
+      record {
+        long = length-set now (to + n) _ ∙ c.long;
+        put = λ e l. lt-cases e n
+            (λ k. get_or-set_other now (to + n) (to + e) _ 0 (λ z. omega arith) ∙ c.put e k)
+            (λ k. let same : e ≡ n = omega arith in rw same (get_or-set_same now (to + n) _ 0 (omega (arith, c.long))));
+        under = λ i l. get_or-set_other now (to + n) i _ 0 (λ z. omega arith) ∙ c.under i l;
+        over = λ i l. get_or-set_other now (to + n) i _ 0 (λ z. omega arith) ∙ c.over i (omega arith);
+      }
 
 -- a turn of `gather_by`
 pub gather-next : (bits p address : ℕ) (order src out now after : List ℕ) → address ≡ get_or order p 0
