@@ -8,15 +8,15 @@
 // Internal: nothing here is a public entry.
 #![tactic(auto)]
 
-ghost use Rattle.std.specs.Prelude.{◌≡◌, ◌≤◌};
+ghost use Rattle.std.specs.Prelude.{◌≡◌, ◌≤◌, List, ℕ, Result, length};
+ghost use Rattle.std.specs.Fn.{FnOnceReturnsAtMut};
+ghost use Rattle.refusal.specs.declared.Refusal.{Refusal};
 ghost use Rattle.refusal.specs.Report.{answer};
-ghost use Rattle.card.specs.Entries.{read_fields};
-ghost use Rattle.constellation.specs.Entries.{map_outcome};
-ghost use Rattle.record.specs.Expected.{byte_at, holds_bytes, holds_words, holds_floats};
-ghost use Rattle.record_calls.specs.Calls.{card_in, slice_of, bytes_outcome, judged, room, given};
+ghost use Rattle.record.specs.Expected.{holds, compared};
+ghost use Rattle.record_calls.specs.Calls.{card_in, slice_of, bytes_outcome, room, given};
 
 use card::Card;
-use record::{Given, Record};
+use record::{Element, Given, Record};
 use refusal::Refusal;
 
 // The card whose fields are some words.
@@ -66,38 +66,27 @@ fn call(call: u64, card: &[u8], input: &[u8], out: &mut [u8]) -> Result<usize, R
     }
 }
 
-// What a record's call gives, whose output is bytes, a card's fields or a point.
-fn bytes_given(r: Record, card: &[u8], input: &[u8], expected: &[u8], out: &mut [u8]) -> Given
-    ensures { result ≡ judged r (bytes_outcome r.call card.now input.now out.old) (λ o. holds_bytes o expected.now) }
-{
-    let answer = call(r.call, card, input, out);
-    record::compared(answer, r, record::holds(out, expected))
-}
-
-fn fields_given(r: Record, card: &[u8], expected: &[u8], out: &mut [u64]) -> Given
-    ensures { result ≡ judged r (read_fields card.now out.old) (λ o. holds_words o expected.now) }
-{
-    let answer = card::read_fields(card, out);
-    record::compared(answer, r, record::holds(out, expected))
-}
-
-fn point_given(r: Record, card: &[u8], input: &[u8], expected: &[u8], out: &mut [f64]) -> Given
-    ensures { result ≡ judged r (map_outcome (byte_at card.now 0) input.now out.old) (λ o. holds_floats o expected.now) }
-{
-    let modulation = record::byte_at(card, 0);
-    let answer = constellation::map_into(modulation as u64, input, out);
-    record::compared(answer, r, record::holds(out, expected))
-}
-
 // The room of a record, at most that of an untouched output.
 fn room_of(r: Record, most: usize) -> usize
     ensures { (result ≡ room most r) × (result ≤ most) }
 {
     let room = r.room as usize;
-    if room < most {
-        return room;
-    }
-    most
+    if room < most { room } else { most }
+}
+
+// What a call gives on an output.
+fn given_by<T: Element, F: FnOnce(&mut [T]) -> Result<usize, Refusal>>(
+    r: Record,
+    expected: &[u8],
+    out: &mut [T],
+    call: F,
+) -> Given
+    requires { F.IsAlwaysCallable call }
+    ensures { (a : Result ℕ Refusal) × (made : List T) × FnOnceReturnsAtMut F.FnOnce call out.old a made
+        × (result ≡ compared r (answer a) (holds (length made) (T.count (length expected.now)) (T.same made expected.now))) }
+{
+    let answer = call(out);
+    record::compared(answer, r, record::holds(out, expected))
 }
 
 // What a record's call gives on an untouched output.
@@ -105,15 +94,35 @@ pub fn run(r: Record, card: &[u8], input: &[u8], expected: &[u8]) -> Given
     ensures { result ≡ given r card.now input.now expected.now }
 {
     let room = room_of(r, record::MOST_WORDS);
-    if r.call == 4 {
-        let mut out: [u64; record::MOST_WORDS] = record::untouched();
-        return fields_given(r, card, expected, &mut out[..room]);
+    match r.call {
+        4 => {
+            let mut out: [u64; record::MOST_WORDS] = record::untouched();
+            given_by(
+                r,
+                expected,
+                &mut out[..room],
+                |out| card::read_fields(card, out),
+            )
+        }
+        6 => {
+            let mut out: [f64; record::MOST_WORDS] = record::untouched();
+            let modulation = u64::from(record::byte_at(card, 0));
+            given_by(
+                r,
+                expected,
+                &mut out[..room],
+                |out| constellation::map_into(modulation, input, out),
+            )
+        }
+        _ => {
+            let mut out: [u8; record::MOST_BYTES] = record::untouched();
+            let room = room_of(r, record::MOST_BYTES);
+            given_by(
+                r,
+                expected,
+                &mut out[..room],
+                |out| call(r.call, card, input, out),
+            )
+        }
     }
-    if r.call == 6 {
-        let mut out: [f64; record::MOST_WORDS] = record::untouched();
-        return point_given(r, card, input, expected, &mut out[..room]);
-    }
-    let room = room_of(r, record::MOST_BYTES);
-    let mut out: [u8; record::MOST_BYTES] = record::untouched();
-    bytes_given(r, card, input, expected, &mut out[..room])
 }

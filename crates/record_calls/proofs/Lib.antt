@@ -1,0 +1,2 @@
+-- The laws of what `record_calls` defines. Assumes nothing.
+mod CallLaws
