@@ -45,12 +45,23 @@ cases() {
   awk '/^pub enum Refusal/ { on = 1; next } on && /^}/ { exit } on && !/\/\// { sub(/^ */, ""); sub(/[(,].*/, ""); print }' crates/refusal/src/lib.rt
 }
 
-# Arms of a function of the core in order, as `case result`.
+# Arms of a method of the core, as `case result`, a line a case: an arm may name several, over several lines.
 arms() {
-  awk -v start="fn $1(" '
+  awk -v start="fn $1(self)" '
     index($0, start) { on = 1; next }
-    on && /^}/ { exit }
-    on && /Refusal::/ { sub(/^.*Refusal::/, ""); sub(/(\([a-z_]*\))? => /, " "); sub(/,.*/, ""); print }' crates/refusal/src/lib.rt
+    on && /^    }/ { exit }
+    on {
+      rest = $0
+      while (match(rest, /Refusal::[A-Za-z]+/)) {
+        names[++n] = substr(rest, RSTART + 9, RLENGTH - 9)
+        rest = substr(rest, RSTART + RLENGTH)
+      }
+      if (sub(/^.* => /, "", rest)) {
+        sub(/,.*/, "", rest)
+        for (i = 1; i <= n; i++) print names[i], rest
+        n = 0
+      }
+    }' crates/refusal/src/lib.rt
 }
 
 # Clauses of the definition in order, as `case number value`.
@@ -90,8 +101,8 @@ fi
 same 'docs/CLASS.md' "$refusals" "$(rows docs/CLASS.md '## The numbers at the bench' 3 | tail -n +2)"
 same 'include/hplc.h' "$refusals" "$(header | tail -n +2)"
 same 'the enum Refusal' "$refusals" "$(enum)"
-same 'number_of' "$(paste -d ' ' <(cases) <(printf '%s\n' "$numbers"))" "$(arms number_of)"
-same 'value_of' "$(paste -d ' ' <(cases) <(cut -d ' ' -f 2 <<< "$zero"))" "$(arms value_of)"
+same 'number' "$(paste -d ' ' <(cases) <(printf '%s\n' "$numbers"))" "$(arms number)"
+same 'value' "$(paste -d ' ' <(cases) <(cut -d ' ' -f 2 <<< "$zero") | sort)" "$(arms value | sort)"
 same 'refusal of Report.antt' "$(paste -d ' ' <(cases) <(printf '%s\n' "$zero"))" "$(clauses)"
 order=$(sed -nE 's/^row_order = (.*) ∷ \[\]$/\1/p' crates/refusal/specs/Outcome.antt)
 same 'row_order of Outcome.antt' "$numbers" "${order// ∷ /$'\n'}"
