@@ -34,7 +34,7 @@ struct Run {
     row: usize,
 }
 
-// A row moved up, modulo the number of rows. A division here makes a block at rate 16/18 slower, by 13 percent out and by 40 percent back.
+// A row moved up, modulo the number of rows. A division here makes a block at rate 16/18 slower, by 13 percent out and by 37 percent back.
 fn moved_row(rows: usize, offset: usize, row: usize) -> usize
     requires { (row < rows) × (offset ≤ rows) × (rows < 65536) }
     ensures { (result ≡ moved_row rows offset row) × (result < rows) }
