@@ -121,8 +121,8 @@ pub fn with_files<R: Env + Files + Print, F: FnOnce(&[u8], &[u8]) -> io::Result<
 pub fn put_refusal(rt: &impl Print, r: Refusal) -> io::Result<usize>
     ensures { IfOk result (λ n. n ≡ length (refusal_lines r)) }
 {
-    let mut text = [0u8; 56];
-    let n = job::refusal_lines(r, &mut text);
-    put_first(rt, &text, n)?;
-    Ok(n)
+    let text = job::refusal_lines(r);
+    let lines = text.as_bytes();
+    output::put(rt, lines)?;
+    Ok(lines.len())
 }

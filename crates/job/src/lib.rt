@@ -4,13 +4,13 @@
 // as the entries do.
 #![tactic(auto)]
 
-ghost use Rattle.std.specs.Prelude.{◌≡◌, ◌≤◌, length};
+ghost use Rattle.std.specs.Prelude.{◌≡◌};
 ghost use Rattle.refusal.specs.Report.{answer};
-ghost use Rattle.text.specs.Text.{appended};
 ghost use Rattle.card.specs.Gate.{gate};
 ghost use Rattle.job.specs.Jobs.{of_frame, send as send_outcome, read as read_outcome, refusal_lines};
 
 use refusal::Refusal;
+use text::Text;
 
 // Whether a card goes to frame control: every one that payload does not serve, since one that is no card is refused alike by both.
 fn is_of_frame(card: &[u8]) -> bool
@@ -41,14 +41,14 @@ pub fn read(card: &[u8], items: &[u8], out: &mut [u8]) -> Result<usize, Refusal>
     payload::read(card, items, out)
 }
 
-// The lines of a refusal at the start of `out`: its number, and what comes with it. The length of the text is returned.
-pub fn refusal_lines(r: Refusal, out: &mut [u8]) -> usize
-    requires { 56 ≤ length out.old }
-    ensures end { result ≡ length (refusal_lines r) }
-    ensures text { out.new ≡ appended out.old 0 (refusal_lines r) }
+// The lines of a refusal: its number, and what comes with it.
+pub fn refusal_lines(r: Refusal) -> Text<56>
+    ensures { result ≡ refusal_lines r }
 {
     let mut value = [0u64; 2];
     let number = refusal::report(Err(r), &mut value);
-    let at = text::append_number(out, 0, b"refused", number as u64);
-    text::append_number(out, at, b"value", value[0])
+    let mut text = Text::new();
+    text.push_number(b"refused", u64::from(number));
+    text.push_number(b"value", value[0]);
+    text
 }

@@ -1,12 +1,12 @@
 -- How long the text of a card is. Assumes nothing.
-use mathlib.Core.Path.{◌≡◌, refl, ap}
-use mathlib.Core.List.{List}
+use mathlib.Core.Path.{◌≡◌, refl, sym, ap, ◌∙◌}
+use mathlib.Core.List.{List, ◌++◌, append_assoc, append-nil}
 use mathlib.Core.Logic.{◌⊎◌, inl, inr}
 use Prim.Native.Nat.{ℕ, ◌+◌, ◌^◌, ◌≤◌, ◌<◌}
 use native.Mathlib.Omega.{arith}
 use lib.Dec.{eqb, ltb}
 use lib.ListN.{length, length-append}
-use borrow.Author.Tests.{lt-ltb}
+use borrow.Author.Tests.{lt-ltb, eq-eqb, ne_eqb}
 use Rattle.bits.proofs.BoolLaws.{test-cases, both}
 use Rattle.bits.proofs.ListLaws.{lowest-up-to}
 use Rattle.bits.proofs.RangeLaws.{under}
@@ -20,7 +20,7 @@ use Rattle.card.proofs.ModeLaws.{version-is, defined-card, defined-mode}
 use Rattle.card.proofs.CopyLaws.{count-back}
 use Rattle.card.proofs.GateLaws.{card-read, read-sound}
 use Rattle.printed_card.specs.Text.{mode_lines, count_lines, card_lines, text_of, card_text, longest}
-use Rattle.printed_card.specs.Loops.Drafts.{Short}
+use Rattle.printed_card.specs.Short.{Short}
 
 -- a number below a power of ten has no more digits than the power
 few-digits : (n k : ℕ) → n < 10 ^ (k + 1) → length (decimal n) ≤ k + 1
@@ -62,6 +62,16 @@ module _ (c : Card) (short : Short c) where
   lines-short : length (card_lines c) ≤ longest
   unfolding card_lines
   lines-short = simp length-append (omega (arith, mode-short, counts-short, length-binary 11 c.taps, length-decimal c.serial, (places-le c.serial).1))
+
+-- the counts behind a text, in version 2 and otherwise
+pub with_counts : (c : Card) (t : List ℕ) {blocks both : List ℕ} → c.version ≡ 2 → blocks ≡ t ++ line (ascii "blocks") (decimal c.blocks)
+    → both ≡ blocks ++ line (ascii "copies") (decimal c.copies) → both ≡ t ++ count_lines c
+unfolding count_lines
+with_counts c t v b e = simp (eq-eqb c.version 2 v) (e ∙ ap (λ (l : List ℕ). l ++ line (ascii "copies") (decimal c.copies)) b ∙ append_assoc t _ _)
+
+pub without_counts : (c : Card) (t : List ℕ) {none : List ℕ} → (c.version ≡ 2 → ⊥) → none ≡ t → none ≡ t ++ count_lines c
+unfolding count_lines
+without_counts c t v e = simp (ne_eqb c.version 2 v) (e ∙ sym (append-nil t))
 
 -- a card that is read is short
 pub read_short : (bytes : List ℕ) (c : Card) → read_card bytes ≡ done c → Short c

@@ -1,3 +1,3 @@
 -- What the contracts of `printed_card` cite. Assumes nothing.
 pub mod Text
-pub mod Loops
+pub mod Short

@@ -1,5 +1,5 @@
--- Text in ASCII: words, digits, lines, and a text that grows in a buffer. Assumes nothing.
-use Rattle.std.specs.Prelude.{cond, List, [], ◌∷◌, ◌++◌, ℕ, suc, ◌+◌, ◌-◌, ◌/◌, ◌%◌, ◌^◌, eqb, ltb, length, get_or, take, drop}
+-- Text in ASCII: words, digits and lines. Assumes nothing.
+use Rattle.std.specs.Prelude.{cond, List, [], ◌∷◌, ◌++◌, ℕ, suc, ◌+◌, ◌-◌, ◌/◌, ◌%◌, ◌^◌, eqb, ltb, get_or}
 use Prim.Native.Char.{code}
 use Prim.Native.String.{String}
 use Rattle.bits.specs.Bits.{bit_at}
@@ -33,7 +33,3 @@ hex_at bytes i = hex_digit (cond (eqb (i % 2) 0) (get_or bytes (i / 2) 0 / 16) (
 -- a name, a space, a value and a line end
 abbrev pub line : List ℕ → List ℕ → List ℕ
 line name value = name ++ (32 ∷ (value ++ (10 ∷ [])))
-
--- a buffer whose text up to `at` is followed by s; what lies behind keeps its contents
-unfoldable pub appended : List ℕ → ℕ → List ℕ → List ℕ
-appended buf at s = take at buf ++ s ++ drop (at + length s) buf

@@ -1,83 +1,100 @@
-// Text in ASCII, made in a buffer from the front: words, digits and lines.
+// Text in ASCII, in fixed memory: words, digits and lines.
 //
-// Internal: nothing here is a public entry. `at` is where the text so far ends; each function returns where it ends then.
+// Internal: nothing here is a public entry.
 #![tactic(auto)]
 
-ghost use Rattle.std.specs.Prelude.{◌≡◌, ◌+◌, ◌*◌, ◌/◌, ◌%◌, ◌^◌, ◌-◌, ◌<◌, ◌≤◌, length};
-ghost use Rattle.bits.specs.Lists.{tabulate, written};
-ghost use Rattle.text.specs.Text.{places, decimal, hex_digit, hex_at, line, appended};
+ghost use Rattle.std.specs.Prelude.{◌≡◌, [], ◌++◌, ◌+◌, ◌*◌, ◌<◌, ◌≤◌, length};
+ghost use Rattle.bits.specs.Lists.{written};
+ghost use Rattle.text.specs.Text.{places, decimal, hex_digit, hex_at, line};
 
-// Appends some bytes.
-pub fn append(buf: &mut [u8], at: usize, src: &[u8]) -> usize
-    requires { at + length src.now ≤ length buf.old }
-    ensures end { result ≡ at + length src.now }
-    ensures text { buf.new ≡ appended buf.old at src.now }
-{
-    let mut i: usize = 0;
-    while i < src.len() {
-        buf[at + i] = src[i];
-        i += 1;
+use std::marker::Model;
+
+// A text of at most N bytes.
+#[derive(Drop)]
+pub struct Text<const N: usize> {
+    bytes: [u8; N],
+    len: usize,
+}
+
+// A clause sees the text as the list of its bytes.
+impl<const N: usize> Model for Text<N> {
+    ghost use Rattle.std.specs.Prelude.{List, ℕ, ◌≤◌, take};
+
+    ghost Value = { List ℕ };
+
+    ghost view = { λ t. take t.len t.bytes };
+
+    ghost invariant = { λ t. t.len ≤ N };
+}
+
+impl<const N: usize> Text<N> {
+    pub fn new() -> Self
+        ensures { result ≡ [] }
+    {
+        Text {
+            bytes: [0; N],
+            len: 0,
+        }
     }
-    at + i
-}
 
-// How many decimal digits n takes.
-fn places_of(n: u64) -> usize
-    ensures { result ≡ places n }
-{
-    let mut k: usize = 1;
-    let mut rest = n / 10;
-    while 0 < rest {
-        rest = rest / 10;
-        k += 1;
+    pub fn as_bytes(&self) -> &[u8]
+        ensures { result.now ≡ self.now }
+    {
+        &self.bytes[..self.len]
     }
-    k
-}
 
-// Twenty decimal digits of n, with zeros in front.
-fn twenty_digits(n: u64) -> [u8; 20]
-    ensures { result ≡ tabulate 20 (λ j. 48 + n / 10 ^ (19 - j) % 10) }
-{
-    let mut digits = [48u8; 20];
-    let mut i: usize = 20;
-    let mut rest = n;
-    while 0 < i {
-        i -= 1;
-        digits[i] = 48 + (rest % 10) as u8;
-        rest = rest / 10;
+    // Appends some bytes.
+    pub fn push(&mut self, bytes: &[u8])
+        requires { length self.old + length bytes.now ≤ N }
+        ensures { self.new ≡ self.old ++ bytes.now }
+    {
+        let end = self.len + bytes.len();
+        let room = &mut self.bytes[..];
+        room[self.len..end].copy_from_slice(bytes);
+        self.len = end;
     }
-    digits
-}
 
-// Appends a line of a name and a value.
-pub fn append_line(buf: &mut [u8], at: usize, name: &[u8], value: &[u8]) -> usize
-    requires { at + length (line name.now value.now) ≤ length buf.old }
-    ensures end { result ≡ at + length (line name.now value.now) }
-    ensures text { buf.new ≡ appended buf.old at (line name.now value.now) }
-{
-    let named = append(buf, at, name);
-    let spaced = append(buf, named, b" ");
-    let valued = append(buf, spaced, value);
-    append(buf, valued, b"\n")
-}
+    // Appends a number in decimal. The digits are made here, since no clause says when a `write!` succeeds.
+    fn push_decimal(&mut self, n: u64)
+        requires { length self.old + places n ≤ N }
+        ensures { self.new ≡ self.old ++ decimal n }
+    {
+        let places = (1..20).find(|k| n < 10u64.pow(*k)).unwrap_or(20);
+        for i in 0..places {
+            self.push(&[b'0' + (n / 10u64.pow(places - 1 - i) % 10) as u8]);
+        }
+    }
 
-// Appends a line of a name and a number in decimal.
-pub fn append_number(buf: &mut [u8], at: usize, name: &[u8], n: u64) -> usize
-    requires { at + length name.now + 22 ≤ length buf.old }
-    ensures end { result ≡ at + length (line name.now (decimal n)) }
-    ensures text { buf.new ≡ appended buf.old at (line name.now (decimal n)) }
-{
-    let digits = twenty_digits(n);
-    let from = 20 - places_of(n);
-    append_line(buf, at, name, &digits[from..])
+    // Appends a line of a name and a value.
+    pub fn push_line(&mut self, name: &[u8], value: &[u8])
+        requires { length self.old + length (line name.now value.now) ≤ N }
+        ensures { self.new ≡ self.old ++ line name.now value.now }
+    {
+        self.push(name);
+        self.push(b" ");
+        self.push(value);
+        self.push(b"\n");
+    }
+
+    // Appends a line of a name and a number in decimal.
+    pub fn push_number(&mut self, name: &[u8], n: u64)
+        requires { length self.old + length name.now + 22 ≤ N }
+        ensures { self.new ≡ self.old ++ line name.now (decimal n) }
+    {
+        self.push(name);
+        self.push(b" ");
+        self.push_decimal(n);
+        self.push(b"\n");
+    }
 }
 
 // A hex digit.
+#[tactic(auto, unfolding(crate::specs::Text::hex_digit))]
 fn hex_digit(n: u8) -> u8
     requires { n < 16 }
     ensures { result ≡ hex_digit n }
 {
-    if n < 10 { 48 + n } else { 87 + n }
+    if n < 10 { b'0' + n } else { b'a' - 10 + n }
 }
 
 // Some bytes in hex, two digits a byte, at the start of `out`.
@@ -85,10 +102,8 @@ pub fn hex(bytes: &[u8], out: &mut [u8])
     requires { 2 * length bytes.now ≤ length out.old }
     ensures { out.new ≡ written (2 * length bytes.now) (hex_at bytes.now) out.old }
 {
-    let mut k: usize = 0;
-    while k < bytes.len() {
-        out[2 * k] = hex_digit(bytes[k] / 16);
-        out[2 * k + 1] = hex_digit(bytes[k] % 16);
-        k += 1;
+    for (k, byte) in bytes.iter().enumerate() {
+        out[2 * k] = hex_digit(*byte / 16);
+        out[2 * k + 1] = hex_digit(*byte % 16);
     }
 }

@@ -1,40 +1,82 @@
--- `printed_card::card_lines` meets its contract: the mode, the taps, the counts and the serial. Assumes nothing.
-use mathlib.Core.Path.{◌≡◌}
-use Prim.Native.Nat.{◌≤◌}
+-- `printed_card::card_lines` meets its contract: line after line, and the counts in version 2. Assumes nothing.
+use mathlib.Core.Path.{◌≡◌, refl, ap, ap₂, ◌∙◌}
+use mathlib.Core.List.{List, ◌++◌}
+use Prim.Native.Nat.{ℕ, ◌≤◌}
 use native.Mathlib.Omega.{arith}
-use lib.ListN.{length}
-use Rattle.text.specs.Text.{ascii, line}
-use Rattle.printed_card.specs.Text.{card_lines}
-use Rattle.printed_card.proofs.DraftLaws.{holds_more}
-use Rattle.printed_card.proofs.LengthLaws.{taps-line, mode-short, counts-short}
+use lib.ListN.{length, length-append}
+use Rattle.std.proofs.lemmas.Grind.{common_steps}
+use Rattle.text.specs.Text.{ascii, decimal, binary, line}
+use Rattle.card.specs.declared.Card.{Card}
+use Rattle.printed_card.specs.Short.{Short}
+use Rattle.printed_card.specs.Text.{mode_lines, count_lines, card_lines}
+use Rattle.printed_card.proofs.LengthLaws.{digit-line, taps-line, mode-fields, mode-short, counts-short, with_counts, without_counts}
 use Rattle.printed_card.proofs.card_lines.Goals as goal
-use Rattle.printed_card.proofs.card_lines.Goals.{After-with_line-arg-1, After-with_line-taps, After-with_number-arg-1}
+use Rattle.printed_card.proofs.card_lines.Goals.{After-push_number-5, After-push_line, After-push_number-6, then-counted, else-counted}
 
--- the text up to the mode's end and the taps' line to come; the text up to the taps' end; and up to the counts' end
-mode-end : (c : After-with_line-arg-1) → (c.mode_lines.result.len ≤ 44) × (length (line (ascii "taps") c.tap_digits-digits.result) ≡ 17)
-mode-end c =
-    (omega (arith, mode-short c.args.c c.requires), taps-line c.args.c.taps c.tap_digits-digits.result c.tap_digits-digits.ensures)
+-- the mode's lines
+mode : (c : After-push_number-5) → c.push_number-5.new.self ≡ mode_lines c.args.c
+unfolding mode_lines
+mode c =
+    let version = line (ascii "version") (decimal c.args.c.version) in
+    let first : c.push_number.new.self ≡ version = c.push_number.ensures ∙ ap (λ (t : List ℕ). t ++ version) c.new-text.ensures in
+    cc
 
-taps-end : (c : After-with_line-taps) → (c.mode_lines.result.len ≤ 44) × (length (line (ascii "taps") c.tap_digits-digits.result) ≡ 17)
-    → c.with_line-taps.result.len ≤ 61
-taps-end c mode = omega (arith, mode)
+-- the mode's lines and the taps'
+taps : (c : After-push_line) → c.push_number-5.new.self ≡ mode_lines c.args.c
+    → c.push_line.new.self ≡ mode_lines c.args.c ++ line (ascii "taps") (binary 11 c.args.c.taps)
+taps c m = c.push_line.ensures ∙ ap₂ (λ (t d : List ℕ). t ++ line (ascii "taps") d) m c.tap_digits.ensures
 
-counts_end : (c : After-with_number-arg-1) → c.with_line-taps.result.len ≤ 61 → c.with_counts-counts.result.len ≤ 80
-counts_end c taps = omega (arith, taps, counts-short c.args.c c.requires)
+-- they are short
+short : (c : Card) (text : List ℕ) → Short c → text ≡ mode_lines c ++ line (ascii "taps") (binary 11 c.taps) → length text ≤ 61
+short c text s e = omega (arith, ap length e, length-append {A = ℕ}, mode-short c s, taps-line c.taps (binary 11 c.taps) refl)
 
-pub with_line-taps-requires : goal.with_line-taps-requires
-with_line-taps-requires c = omega (arith, mode-end (goal.at.with_line-taps-requires c).After-with_line-arg-1)
+pub push_number-requires-2 : goal.push_number-requires-2
+push_number-requires-2 c = let fields = mode-fields c.args.c c.requires in grind (arith, common_steps)
 
-pub with_counts-counts-requires : goal.with_counts-counts-requires
-with_counts-counts-requires c = (c.requires, taps-end c (mode-end (goal.at.with_counts-counts-requires c).After-with_line-arg-1))
+pub push_number-requires-3 : goal.push_number-requires-3
+push_number-requires-3 c = let fields = mode-fields c.args.c c.requires in grind (arith, common_steps)
 
-pub with_number-requires : goal.with_number-requires
-with_number-requires c =
-    let from = goal.at.with_number-requires c in
-    omega (arith, counts_end from.After-with_number-arg-1 (taps-end from.After-with_line-taps (mode-end from.After-with_line-arg-1)))
+pub push_number-requires-4 : goal.push_number-requires-4
+push_number-requires-4 c = let fields = mode-fields c.args.c c.requires in grind (arith, common_steps)
+
+pub push_number-requires-5 : goal.push_number-requires-5
+push_number-requires-5 c = let fields = mode-fields c.args.c c.requires in grind (arith, common_steps)
+
+pub push_line-requires : goal.push_line-requires
+push_line-requires c =
+    let mode = mode (goal.at.push_line-requires c).After-push_number-5 in
+    (omega arith, omega (arith, ap length mode, mode-short c.args.c c.requires, taps-line c.args.c.taps c.tap_digits.result c.tap_digits.ensures))
+
+pub push_number-requires-then-counted : goal.push_number-requires-then-counted
+push_number-requires-then-counted c =
+    let from = goal.at.push_number-requires-then-counted c in
+    let few = short c.args.c _ c.requires (taps from.After-push_line (mode from.After-push_number-5)) in
+    (omega arith, omega (arith, few))
+
+pub push_number-requires-then-counted-2 : goal.push_number-requires-then-counted-2
+push_number-requires-then-counted-2 c =
+    let from = goal.at.push_number-requires-then-counted-2 c in
+    let few = short c.args.c _ c.requires (taps from.After-push_line (mode from.After-push_number-5)) in
+    let blocks = digit-line (ascii "blocks") c.args.c.blocks c.requires.blocks-lt in
+    (omega arith, omega (arith, few, blocks, ap length c.push_number-then-counted.ensures, length-append {A = ℕ}))
+
+pub push_number-requires-6 : goal.push_number-requires-6
+push_number-requires-6 c =
+    let from = goal.at.push_number-requires-6 c in
+    let few = short c.args.c _ c.requires (taps from.After-push_line (mode from.After-push_number-5)) in
+    let counts : c.if-counted.text ≡ c.push_line.new.self ++ count_lines c.args.c = elim c.if-counted.branch [
+      | then-counted w ↦ with_counts c.args.c _ w.if-counted.true w.push_number-then-counted.ensures (w.text-is ∙ w.push_number-then-counted-2.ensures)
+      | else-counted w ↦ without_counts c.args.c _ w.if-counted.false w.text-is
+    ] in
+    (omega arith, omega (arith, few, ap length counts, counts-short c.args.c c.requires, length-append {A = ℕ}))
 
 pub returns : goal.returns
 unfolding card_lines
 returns c =
-    rw (← c.tap_digits-digits.ensures)
-    (holds_more _ _ _ _ (holds_more _ _ _ _ (holds_more _ _ _ _ c.mode_lines.ensures c.with_line-taps.ensures) c.with_counts-counts.ensures) c.with_number.ensures)
+    let from = goal.at.returns c in
+    let taps = taps from.After-push_line (mode from.After-push_number-5) in
+    let counts : c.if-counted.text ≡ c.push_line.new.self ++ count_lines c.args.c = elim c.if-counted.branch [
+      | then-counted w ↦ with_counts c.args.c _ w.if-counted.true w.push_number-then-counted.ensures (w.text-is ∙ w.push_number-then-counted-2.ensures)
+      | else-counted w ↦ without_counts c.args.c _ w.if-counted.false w.text-is
+    ] in
+    cc

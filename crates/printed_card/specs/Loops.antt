@@ -1,2 +1,0 @@
--- What only the code's own contracts cite. Assumes nothing.
-pub mod Drafts
