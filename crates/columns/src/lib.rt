@@ -1,5 +1,5 @@
 // Four columns of bits of some height, filled column by column: from bytes, most significant bit first, to rows of four elements, each
-// 0 or 1, and back.
+// 0 or 1, and back. The loops go over indices and not over chunks, since each index is a place on both sides.
 //
 // Internal: nothing here is a public entry. A function with a `requires` is called only where its caller has shown it.
 #![tactic(auto)]

@@ -61,7 +61,7 @@ fn byte_word(taps: u16, state: u8, byte: u8) -> u16
 }
 
 // As many entries of the table again: an encoder is linear, so a byte does what its highest bit does and what the rest does.
-fn double(taps: u16, half: usize, table: &mut [u16])
+fn double(taps: u16, half: usize, table: &mut [u16; 256])
     requires { Doubling taps half table.old }
     ensures { table.new ≡ written (2 * half) (byte_word taps 0) table.old }
 {
@@ -185,8 +185,8 @@ impl<'a> Encoder<'a> {
         ((self.parities >> state) % 256) as u8 ^ (self.table[usize::from(byte)] / 256) as u8
     }
 
-    // Pass one of both encoders, from the state zero to the end of two lists: a byte at a time. Each step of one waits for its last, and the
-    // steps of the other fill the wait: so both go in one loop, here and in pass two, and a loop over the two would only hide that.
+    // Pass one of both encoders, from the state zero to the end of two lists: a byte at a time. Each step waits for the one before it, and the
+    // other encoder's steps fill the wait: so both go in one loop, here and in pass two. A loop over the two would be longer.
     fn walk(&self, bytes: &[u8], second: &[u8]) -> States
         requires { length bytes.now ≤ length second.now }
         ensures { Ended self.now.taps bytes.now second.now (length bytes.now) result }

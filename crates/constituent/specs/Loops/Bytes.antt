@@ -1,5 +1,5 @@
 -- The encoders a byte at a time: four pairs in one step. Assumes nothing.
-use Rattle.std.specs.Prelude.{◌≡◌, List, ℕ, zero, suc, ◌+◌, ◌-◌, ◌*◌, ◌/◌, ◌%◌, ◌^◌, ◌<◌, length, get_or}
+use Rattle.std.specs.Prelude.{◌≡◌, List, ℕ, zero, suc, ◌+◌, ◌-◌, ◌*◌, ◌/◌, ◌%◌, ◌^◌, ◌<◌, get_or}
 use Rattle.constituent.specs.Encoder.{parity, state_at}
 
 -- pair j of a byte
@@ -27,7 +27,6 @@ ByBytes taps table = (b : ℕ) → b < 256 → get_or table b 0 ≡ byte_word ta
 pub record Doubling (taps half : ℕ) (table : List ℕ) : Type 0 where
   pub bit : (j : ℕ) × (j < 8) × (half ≡ 2 ^ j)
   pub low : (b : ℕ) → b < half → get_or table b 0 ≡ byte_word taps 0 b
-  pub room : length table ≡ 256
 
 -- what the byte zero does from each state, eight bits a state: eight times the state after it, and the parity bits
 abbrev pub StatesBy : ℕ → ℕ → Type 0
