@@ -76,5 +76,5 @@ pub fn card_text(card: &[u8], out: &mut [u8]) -> Result<usize, Refusal>
         return Err(Refusal::Room(len));
     }
     bits::put(bytes, out);
-    Answer::Done(len)
+    Ok(len)
 }

@@ -20,6 +20,7 @@ use record::{Element, Given, Record};
 use refusal::Refusal;
 
 // The card whose fields are some words.
+#[tactic(auto, unfolding(crate::specs::Calls::card_in))]
 fn card_in(words: &[u8]) -> Card
     ensures { result ≡ card_in words.now }
 {
@@ -38,18 +39,21 @@ fn card_in(words: &[u8]) -> Card
 }
 
 // Slices as a record has it.
+#[tactic(auto, unfolding(crate::specs::Calls::slice_of))]
 fn slice(card: &[u8], out: &mut [u8]) -> Result<usize, Refusal>
     ensures answer { answer result ≡ (slice_of card.now out.old).report }
     ensures out { out.new ≡ (slice_of card.now out.old).out }
 {
     let i = record::float_of(record::word_at(card, 2));
     let q = record::float_of(record::word_at(card, 10));
-    let modulation = record::byte_at(card, 0);
-    let heard = record::byte_at(card, 1);
-    slicing::slice_into(modulation as u64, heard as u64, i, q, out)
+    let modulation = u64::from(record::byte_at(card, 0));
+    let heard = u64::from(record::byte_at(card, 1));
+    slicing::slice_into(modulation, heard, i, q, out)
 }
 
-// A call whose output is bytes.
+// A call whose output is bytes. Numbers are matched where the calls are made, here and in `run`: an enum of the calls would be one match
+// more, and each number has a call.
+#[tactic(auto, unfolding(crate::specs::Calls::bytes_outcome))]
 fn call(call: u64, card: &[u8], input: &[u8], out: &mut [u8]) -> Result<usize, Refusal>
     ensures answer { answer result ≡ (bytes_outcome call card.now input.now out.old).report }
     ensures out { out.new ≡ (bytes_outcome call card.now input.now out.old).out }
@@ -70,8 +74,7 @@ fn call(call: u64, card: &[u8], input: &[u8], out: &mut [u8]) -> Result<usize, R
 fn room_of(r: Record, most: usize) -> usize
     ensures { (result ≡ room most r) × (result ≤ most) }
 {
-    let room = r.room as usize;
-    if room < most { room } else { most }
+    (r.room as usize).min(most)
 }
 
 // What a call gives on an output.
