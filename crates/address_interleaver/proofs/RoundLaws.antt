@@ -1,18 +1,11 @@
--- Laws of numbers in the round: the next place, and what is moved up. Assumes nothing.
+-- Laws of numbers in the round: one more, and what is moved up. Assumes nothing.
 use mathlib.Core.Path.{◌≡◌, sym, ap, ◌∙◌}
-use Prim.Native.Nat.{ℕ, suc, ◌+◌, ◌-◌, ◌*◌, ◌/◌, ◌%◌, ◌<◌, ◌≤◌}
-use native.Mathlib.Nat.{zero-add, suc-mul, mod-lt, mod-eq_of_lt, mod_self, mod-mod, mod-add-mod, zero-mod, add-mod_right, add-mul-mod_self_right, div-add-mod'}
+use Prim.Native.Nat.{ℕ, suc, ◌+◌, ◌-◌, ◌*◌, ◌/◌, ◌%◌, ◌<◌}
+use native.Mathlib.Nat.{zero-add, suc-mul, mod-lt, mod-eq_of_lt, mod-mod, mod-add-mod, zero-mod, add-mod_right, add-mul-mod_self_right, div-add-mod'}
 use native.Mathlib.Omega.{arith}
 use Rattle.bits.specs.Permutations.{Permutes}
 use Rattle.bits.proofs.PermutationLaws.{moves}
 use Rattle.address_interleaver.specs.Addresses.{circshift}
-
--- the place after p, and after the last one
-pub next-in : (n p : ℕ) → p + 1 < n → p + 1 ≡ (p + 1) % n
-next-in n p h = sym (mod-eq_of_lt h)
-
-pub next-round : (n p : ℕ) → p < n → n ≤ p + 1 → 0 ≡ (p + 1) % n
-next-round n p l h = let e : p + 1 ≡ n = omega arith in rw e (sym (mod_self n))
 
 -- one more
 pub round-next : (n x : ℕ) → (x % n + 1) % n ≡ (x + 1) % n

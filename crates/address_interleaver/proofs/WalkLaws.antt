@@ -8,9 +8,7 @@ use lib.Arith.{digits_div, digits_mod}
 use lib.ListN.{length, get_or, set}
 use lib.Seq.{get_or-set_same, get_or-set_other}
 use borrow.Author.Tests.{lt-ltb, le-ltb}
-use Rattle.bits.specs.Lists.{written}
 use Rattle.bits.proofs.NumberLaws.{lt-cases}
-use Rattle.bits.proofs.ListLaws.{written_of}
 use Rattle.bits.proofs.PermutationLaws.{moves}
 use Rattle.interleaver.proofs.PassLaws.{pass_start, row_at, find, pass-is, pass-row, pass-permutes}
 use Rattle.address_interleaver.specs.Addresses.{circshift, columns, out_addr}
@@ -121,11 +119,10 @@ walk-next n m start base q v out h l e w i k =
     apart : i < q → (i + start) % n ≡ (q + start) % n → ⊥
     apart below z = let s : i ≡ q = (moves n start).apart i q (omega arith) h z in omega arith
 
-pub walk-all : (n m start base : ℕ) (out now : List ℕ) → n ≤ length out → length now ≡ length out → Walked n m start base n now
-    → ((i : ℕ) → n ≤ i → get_or now i 0 ≡ get_or out i 0) → now ≡ written n (λ p. base + columns n m (circshift n start p)) out
-walk-all n m start base out now h l w kept =
-    written_of n _ 0 out now h l
-    (λ p k. ap (λ (x : ℕ). get_or now x 0) (sym (shift_back n start p k)) ∙ w (circshift n start p) ((shift-permutes n start).below p k)) kept
+pub walk-all : (n m start base : ℕ) (now : List ℕ) → Walked n m start base n now
+    → (p : ℕ) → p < n → get_or now p 0 ≡ base + columns n m (circshift n start p)
+walk-all n m start base now w p h =
+    ap (λ (x : ℕ). get_or now x 0) (sym (shift_back n start p h)) ∙ w (circshift n start p) ((shift-permutes n start).below p h)
 
 -- ---- addresses
 
@@ -149,7 +146,7 @@ stepped-row n step k base p e =
     ap (λ (x : ℕ). base + x) (ap (columns n ((k + 1) * step)) (shift-mod n (2 * k * step) p) ∙ sym (out-stepped n step k p e))
 
 -- the addresses of interleaver k in the table
-pub address-at : (interleavers span step k j i at : ℕ) → at ≡ k * span → j ≡ k % interleavers → i < span
-    → j * span + out_addr span step k i ≡ address_of interleavers span step (at + i)
+pub address-at : (interleavers span step k i : ℕ) → i < span
+    → k % interleavers * span + out_addr span step k i ≡ address_of interleavers span step (k * span + i)
 unfolding address_of
-address-at interleavers span step k j i at e f h = rw (e, f, digits_div k h, digits_mod k h)
+address-at interleavers span step k i h = rw (digits_div k h, digits_mod k h)

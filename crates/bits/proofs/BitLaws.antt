@@ -8,9 +8,11 @@ use native.Mathlib.Numerals.{add-one, one-add}
 use native.Mathlib.Omega.{arith}
 use lib.Arith.{bin_ind, digits_div, digits_mod}
 use lib.Bits.{bit_xor, differ, xor_step, xor_self, xor_zero_l, xor_zero_r, xor_shr, xor_mod, xor_block}
-use lib.ListN.{length, get_or}
+use lib.ListN.{length, get_or, take, drop, length-drop}
+use lib.Seq.{take_all, get_or-drop}
+use Rattle.std.specs.Int.{w64, to_be_bytes}
 use lib.Pow.{shr-shr, mod-pow-add, pow_mono, high, low}
-use Rattle.bits.specs.Lists.{written}
+use Rattle.bits.specs.Lists.{tabulate, written}
 use Rattle.bits.specs.Bits.{bit_at, bit_of, pack, byte_of, field, bytes_of}
 use Rattle.bits.proofs.ListLaws.{length-tabulate, get_or-tabulate, get_or-written, tabulate-of, tabulate-ext, written-ext}
 use Rattle.bits.proofs.RangeLaws.{agree₂, agree₃, under₂}
@@ -217,6 +219,29 @@ field_next bytes small at k x e =
     let w : 8 * (k + 1) ≡ 8 * k + 8 = omega arith in
     let a : 8 * at + 8 * k ≡ 8 * (at + k) = omega arith in
     rw (w, field-append bytes (8 * at) (8 * k) 8, a, field-byte bytes (at + k) (small (at + k)), e)
+
+-- the last n bytes of a number's eight, the highest first
+pub last-bytes : (n number : ℕ) → n ≤ 8
+    → take (8 - (8 - n)) (drop (8 - n) (to_be_bytes w64 number)) ≡ tabulate n (λ k. number / 2 ^ (8 * (n - 1 - k)) % 256)
+last-bytes n number h =
+    take_all (8 - (8 - n)) (drop (8 - n) (to_be_bytes w64 number)) (omega (arith, length-drop (8 - n) (to_be_bytes w64 number)))
+    ∙ tabulate-of n _ 0 (drop (8 - n) (to_be_bytes w64 number)) (omega (arith, length-drop (8 - n) (to_be_bytes w64 number))) at
+  where
+    byte : (i : ℕ) → i < 8 → get_or (to_be_bytes w64 number) i 0 ≡ number / 2 ^ (8 * (7 - i)) % 256
+    byte zero l = refl
+    byte (suc zero) l = refl
+    byte (suc (suc zero)) l = refl
+    byte (suc (suc (suc zero))) l = refl
+    byte (suc (suc (suc (suc zero)))) l = refl
+    byte (suc (suc (suc (suc (suc zero))))) l = refl
+    byte (suc (suc (suc (suc (suc (suc zero)))))) l = refl
+    byte (suc (suc (suc (suc (suc (suc (suc zero))))))) l = omega arith
+    byte (suc (suc (suc (suc (suc (suc (suc (suc i)))))))) l = absurd (omega arith)
+
+    at : (k : ℕ) → k < n → get_or (drop (8 - n) (to_be_bytes w64 number)) k 0 ≡ number / 2 ^ (8 * (n - 1 - k)) % 256
+    at k l =
+        let e : 7 - (8 - n + k) ≡ n - 1 - k = omega arith in
+        get_or-drop (8 - n) (to_be_bytes w64 number) k 0 ∙ byte (8 - n + k) (omega arith) ∙ ap (λ (j : ℕ). number / 2 ^ (8 * j) % 256) e
 
 -- a field within a longer one
 pub field-within : (bytes : List ℕ) (at w rest : ℕ) → field bytes 0 (at + w + rest) / 2 ^ rest % 2 ^ w ≡ field bytes at w

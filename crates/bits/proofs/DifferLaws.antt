@@ -35,6 +35,11 @@ differing-bits x y hx hy = ones-byte (bit_xor x y) (xor_lt 8 x y hx hy) ∙ sum-
 abbrev pub unlike : List ℕ → List ℕ → ℕ → Bool
 unlike a b i = not (eqb (bit_of a i) (bit_of b i))
 
+-- the bits that differ of the same two bytes
+pub unlike-bytes : {p q x y : ℕ} → p ≡ x → q ≡ y
+    → count 8 (λ j. not (eqb (bit_at (7 - j) p) (bit_at (7 - j) q))) ≡ count 8 (λ j. not (eqb (bit_at (7 - j) x) (bit_at (7 - j) y)))
+unlike-bytes e d = ap₂ (λ (p q : ℕ). count 8 (λ j. not (eqb (bit_at (7 - j) p) (bit_at (7 - j) q)))) e d
+
 -- one byte more
 pub unlike-next : (a b : List ℕ) (i n r : ℕ) → n ≡ count (8 * i) (unlike a b)
     → r ≡ count 8 (λ j. not (eqb (bit_at (7 - j) (get_or a i 0)) (bit_at (7 - j) (get_or b i 0)))) → n + r ≡ count (8 * (i + 1)) (unlike a b)

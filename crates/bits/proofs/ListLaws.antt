@@ -4,16 +4,17 @@ use mathlib.Core.Bool.{Bool, true, false, cond, true≢false}
 use mathlib.Core.List.{List, [], ◌∷◌, ◌++◌, append_assoc, append-nil}
 use mathlib.Core.Logic.{◌⊎◌, inl, inr}
 use Prim.Native.Nat.{ℕ, zero, suc, ◌+◌, ◌-◌, ◌≤◌, ◌<◌}
-use native.Mathlib.Nat.{add-zero, add-suc, eq-or-lt_of_le, le_of_suc-le-suc, not-suc-le-zero, le_of_eq, le_trans}
+use native.Mathlib.Nat.{add-zero, add-suc, eq-or-lt_of_le, le_of_suc-le-suc, not-suc-le-zero, le_of_eq}
 use native.Mathlib.Numerals.{add-one}
 use native.Mathlib.Omega.{arith}
 use lib.Dec.{ltb}
-use lib.ListN.{length, get_or, take, drop, set, length-append, length-take, length-drop, get_or-append, drop_of_length-le}
+use lib.ListN.{length, get_or, take, drop, set, replicate, length-replicate, get_or-replicate, length-append, length-take, length-drop, get_or-append, drop_of_length-le}
 use lib.Seq.{ext_get_or, drop-cons, set_at, get_or_at, take_at, drop_at, drop-drop, get_or-append-add, get_or-take, get_or-drop}
 use borrow.Author.Tests.{lt-ltb, le-ltb, ltb-false}
 use borrow.Author.Rules.{part_to_end}
+use borrow.Rule.Slice.PartMut.{put_mid}
+use Rattle.std.proofs.lemmas.List.{places}
 use Rattle.bits.specs.Lists.{tabulate, written, lowest, first_above}
-use Rattle.bits.specs.Loops.Largest.{larger, largest}
 use Rattle.bits.proofs.NumberLaws.{lt-cases}
 
 module _ {A : Type 0} where
@@ -145,6 +146,22 @@ module _ {A : Type 0} where
       back : drop n (tabulate n f ++ drop n out) ≡ drop n out
       back = drop_at (tabulate n f) (drop n out) n (length-tabulate n f)
 
+  -- a loop's turn that writes m elements through the part from n on: f's elements are one part more, and those after it are kept
+  pub part-more : (n m : ℕ) (was part : List A) (f : ℕ → A) (d : A) → n + m ≤ length was → length part ≡ m
+      → ((i : ℕ) → i < n → get_or was i d ≡ f i) → ((j : ℕ) → j < m → get_or part j d ≡ f (n + j))
+      → (i : ℕ) → i < n + m → get_or (put_mid n m was part) i d ≡ f i
+  part-more n m was part f d h l before here i b =
+      lt-cases i n
+      (λ c. let e : get_or (put_mid n m was part) i d ≡ get_or was i d = grind (arith, places) in e ∙ before i c)
+      (λ c.
+      let q : n + (i - n) ≡ i = omega arith in
+      let e : get_or (put_mid n m was part) (n + (i - n)) d ≡ get_or part (i - n) d = grind (arith, places) in
+      rw q at (e ∙ here (i - n) (omega arith)))
+
+  pub part-kept : (n m : ℕ) (was part : List A) (d : A) → n + m ≤ length was → length part ≡ m
+      → (i : ℕ) → n + m ≤ i → get_or (put_mid n m was part) i d ≡ get_or was i d
+  part-kept n m was part d h l i b = grind (arith, places)
+
   -- a loop's end
   pub written_all : (n m : ℕ) (f : ℕ → A) (out now : List A) → now ≡ written n f out → n ≡ m → now ≡ written m f out
   written_all n m f out now e g = rw (← g) e
@@ -163,6 +180,12 @@ module _ {A : Type 0} where
   pub written-put : (n : ℕ) (d : A) (xs out now : List A) → now ≡ written n (λ k. get_or xs k d) out → n ≡ length xs → now ≡ xs ++ drop (length xs) out
   unfolding written
   written-put n d xs out now e g = e ∙ rw (g, tabulate-list d xs)
+
+  -- one value, written n times
+  pub written-fill : (n : ℕ) (v : A) (out part : List A) → part ≡ replicate n v → part ++ drop n out ≡ written n (λ _. v) out
+  unfolding written
+  written-fill n v out part e =
+      ap (λ (l : List A). l ++ drop n out) (e ∙ tabulate-of n (λ _. v) v (replicate n v) (length-replicate n v) (λ i h. get_or-replicate n i v v h))
 
   -- a list put at the start of a buffer
   pub written-list : (n : ℕ) (f : ℕ → A) (xs out : List A) → xs ≡ tabulate n f → xs ++ drop (length xs) out ≡ written n f out
@@ -184,26 +207,6 @@ module _ {A : Type 0} where
   set-two a b [] h = absurd (omega arith)
   set-two a b (x ∷ []) h = absurd (omega arith)
   set-two a b (x ∷ y ∷ xs) h = refl
-
--- ---- the largest element
-
-larger-le : (a b : ℕ) → (a ≤ larger a b) × (b ≤ larger a b)
-larger-le a b = lt-cases a b (λ l. rw (lt-ltb a b l) (omega arith, omega arith)) (λ l. rw (le-ltb a b l) (omega arith, omega arith))
-
--- one turn of a loop
-pub largest-next : (n : ℕ) (f : ℕ → ℕ) → largest (n + 1) f ≡ larger (largest n f) (f n)
-unfolding largest
-largest-next n f = rw add-one
-
-pub largest-le : (n : ℕ) (f : ℕ → ℕ) (k : ℕ) → k < n → f k ≤ largest n f
-unfolding largest
-largest-le zero f k h = absurd (not-suc-le-zero h)
-largest-le (suc n) f k h = go (eq-or-lt_of_le (le_of_suc-le-suc h)) (largest-le n f k) (larger-le (largest n f) (f n))
-  where
-    go : (k ≡ n) ⊎ (k < n) → (k < n → f k ≤ largest n f)
-        → (largest n f ≤ larger (largest n f) (f n)) × (f n ≤ larger (largest n f) (f n)) → f k ≤ larger (largest n f) (f n)
-    go (inl e) ih (low, high) = rw e high
-    go (inr l) ih (low, high) = le_trans (ih l) low
 
 -- ---- the lowest number at which a test holds
 
@@ -259,19 +262,23 @@ unfolding lowest
 lowest-ext zero t u h = refl
 lowest-ext (suc n) t u h = rw (h zero (omega arith), lowest-ext n (λ k. t (suc k)) (λ k. u (suc k)) (λ k l. h (suc k) (omega arith)))
 
--- a search from the front: nothing above the limit was passed, and then it is here, or there is none
-pub first-here : (limit : ℕ) (xs : List ℕ) (i : ℕ) → i < length xs → ((k : ℕ) → k < i → get_or xs k 0 ≤ limit) → limit < get_or xs i 0 → i ≡ first_above limit xs
-unfolding first_above
-first-here limit xs i h none a =
-    sym (lowest-here (length xs) (λ k. ltb limit (get_or xs k 0)) i h (λ k l. le-ltb limit (get_or xs k 0) (none k l)) (lt-ltb limit (get_or xs i 0) a))
+-- a search from the front: there is nothing to search, the first element is above the limit, or it is not
+pub first-of_none : (limit : ℕ) → first_above limit [] ≡ 0
+unfolding first_above lowest
+first-of_none limit = refl
 
+pub first-hit : (limit x : ℕ) (xs : List ℕ) → limit < x → first_above limit (x ∷ xs) ≡ 0
+unfolding first_above lowest
+first-hit limit x xs h = rw (lt-ltb limit x h)
+
+pub first-miss : (limit x : ℕ) (xs : List ℕ) → x ≤ limit → first_above limit (x ∷ xs) ≡ first_above limit xs + 1
+unfolding first_above lowest
+first-miss limit x xs h = rw (le-ltb limit x h) (sym (add-one _))
+
+-- nothing is above the limit
 pub first-none : (limit : ℕ) (xs : List ℕ) → ((k : ℕ) → k < length xs → get_or xs k 0 ≤ limit) → length xs ≡ first_above limit xs
 unfolding first_above
 first-none limit xs none = sym (lowest-none (length xs) (λ k. ltb limit (get_or xs k 0)) (λ k l. le-ltb limit (get_or xs k 0) (none k l)))
-
--- no element is above the limit, since the largest is not
-pub first-largest : (limit : ℕ) (xs : List ℕ) → largest (length xs) (λ k. get_or xs k 0) ≤ limit → length xs ≡ first_above limit xs
-first-largest limit xs h = first-none limit xs (λ k l. le_trans (largest-le (length xs) (λ k. get_or xs k 0) k l) h)
 
 -- a search that found nothing: no element is above the limit
 pub none_above : (limit : ℕ) (xs : List ℕ) → length xs ≤ first_above limit xs → (k : ℕ) → k < length xs → get_or xs k 0 ≤ limit

@@ -1,3 +1,2 @@
 -- What only the contracts of loops cite. Assumes nothing.
 pub mod Words
-pub mod Largest

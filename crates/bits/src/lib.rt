@@ -3,46 +3,18 @@
 // Internal: nothing here is a public entry. A function with a `requires` is called only where its caller has shown it.
 #![tactic(auto)]
 
-ghost use Rattle.std.specs.Prelude.{◌≡◌, not, ◌++◌, ℕ, ◌+◌, ◌-◌, ◌*◌, ◌/◌, ◌%◌, ◌^◌, ◌<◌, ◌≤◌, eqb, length, get_or, drop};
+ghost use Rattle.std.specs.Prelude.{◌≡◌, not, ◌++◌, ℕ, ◌+◌, ◌-◌, ◌*◌, ◌/◌, ◌%◌, ◌^◌, ◌<◌, ◌≤◌, eqb, length, get_or, slice_index, EachIndex, drop};
 ghost use Rattle.std.specs.Int.Bits.{bit_xor};
 ghost use Rattle.bits.specs.Lists.{tabulate, written, first_above};
 ghost use Rattle.bits.specs.Bits.{bit_at, bit_of, byte_of, field};
 ghost use Rattle.bits.specs.Sums.{count};
 ghost use Rattle.bits.specs.Loops.Words.{nibble, word_byte, stored};
-ghost use Rattle.bits.specs.Loops.Largest.{larger as larger_of, largest};
-
-// The larger of two numbers.
-fn larger(a: u8, b: u8) -> u8
-    ensures { result ≡ larger_of a b }
-{
-    if a < b { b } else { a }
-}
 
 // The largest element, or 0 where there is none.
 fn largest(s: &[u8]) -> u8
-    ensures { result ≡ largest (length s.now) (λ k. get_or s.now k 0) }
+    ensures { EachIndex s.now (λ k. slice_index s.now k ≤ result) }
 {
-    let mut most: u8 = 0;
-    let mut i: usize = 0;
-    while i < s.len() {
-        most = larger(most, s[i]);
-        i += 1;
-    }
-    most
-}
-
-// The lowest index of an element above `limit`, or the slice's length, one by one.
-fn search_above(s: &[u8], limit: u8) -> usize
-    ensures { result ≡ first_above limit s.now }
-{
-    let mut i: usize = 0;
-    while i < s.len() {
-        if limit < s[i] {
-            return i;
-        }
-        i += 1;
-    }
-    i
+    s.iter().copied().max().unwrap_or(0)
 }
 
 // The lowest index of an element above `limit`, or the slice's length. The largest element is found much faster, so the search runs
@@ -53,7 +25,7 @@ pub fn first_above(s: &[u8], limit: u8) -> usize
     if largest(s) <= limit {
         return s.len();
     }
-    search_above(s, limit)
+    s.iter().position(|x| limit < *x).unwrap_or(s.len())
 }
 
 // All of `src` at the start of `out`.
@@ -61,11 +33,7 @@ pub fn put(src: &[u8], out: &mut [u8])
     requires { length src.now ≤ length out.old }
     ensures { out.new ≡ src.now ++ drop (length src.now) out.old }
 {
-    let mut i: usize = 0;
-    while i < src.len() {
-        out[i] = src[i];
-        i += 1;
-    }
+    out[..src.len()].copy_from_slice(src);
 }
 
 // The number in n bytes from `at` on, the highest byte first.
@@ -74,10 +42,8 @@ pub fn number_at(bytes: &[u8], at: usize, n: usize) -> u64
     ensures { result ≡ field bytes.now (8 * at) (8 * n) }
 {
     let mut number: u64 = 0;
-    let mut k: usize = 0;
-    while k < n {
-        number = number * 256 + bytes[at + k] as u64;
-        k += 1;
+    for byte in &bytes[at..at + n] {
+        number = number * 256 + u64::from(*byte);
     }
     number
 }
@@ -87,11 +53,7 @@ pub fn put_number(number: u64, n: usize, out: &mut [u8])
     requires { (n ≤ 8) × (n ≤ length out.old) }
     ensures { out.new ≡ written n (λ k. number / 2 ^ (8 * (n - 1 - k)) % 256) out.old }
 {
-    let mut k: usize = 0;
-    while k < n {
-        out[k] = ((number >> (8 * (n - 1 - k))) % 256) as u8;
-        k += 1;
-    }
+    out[..n].copy_from_slice(&number.to_be_bytes()[8 - n..]);
 }
 
 // One value, `count` times, at the start of `out`.
@@ -99,11 +61,7 @@ pub fn fill(count: usize, value: u8, out: &mut [u8])
     requires { count ≤ length out.old }
     ensures { out.new ≡ written count (λ _. value) out.old }
 {
-    let mut i: usize = 0;
-    while i < count {
-        out[i] = value;
-        i += 1;
-    }
+    out[..count].fill(value);
 }
 
 // The exclusive-or of each byte with what stands at its place in `out`.
@@ -112,25 +70,9 @@ pub fn add_bytes(bytes: &[u8], out: &mut [u8])
     ensures { out.new ≡ written (length bytes.now)
         (λ k. bit_xor (get_or bytes.now k 0) (get_or out.old k 0)) out.old }
 {
-    let mut i: usize = 0;
-    while i < bytes.len() {
-        out[i] = bytes[i] ^ out[i];
-        i += 1;
+    for (i, byte) in bytes.iter().enumerate() {
+        out[i] ^= *byte;
     }
-}
-
-// A byte as a word.
-fn wide(b: u8) -> u32
-    ensures { (result ≡ b) × (result < 256) }
-{
-    b as u32
-}
-
-// A word's lowest byte.
-fn low(word: u32) -> u8
-    ensures { result ≡ word % 256 }
-{
-    (word % 256) as u8
 }
 
 // Four bytes, from a place on and evenly apart, as a word.
@@ -138,11 +80,12 @@ pub fn gather(from: &[u8], at: usize, apart: usize) -> u32
     requires { at + 3 * apart < length from.now }
     ensures { (c : ℕ) → c < 4 → word_byte result c ≡ get_or from.now (c * apart + at) 0 }
 {
-    let a = wide(from[at]);
-    let b = wide(from[apart + at]);
-    let c = wide(from[2 * apart + at]);
-    let d = wide(from[3 * apart + at]);
-    a + b * 256 + c * 65536 + d * 16777216
+    u32::from_le_bytes([
+        from[at],
+        from[apart + at],
+        from[2 * apart + at],
+        from[3 * apart + at],
+    ])
 }
 
 // A word's four bytes, stored from a place on and evenly apart.
@@ -150,10 +93,11 @@ pub fn scatter(word: u32, at: usize, apart: usize, to: &mut [u8])
     requires { at + 3 * apart < length to.old }
     ensures { to.new ≡ stored 4 (λ c. c * apart + at) (word_byte word) to.old }
 {
-    to[at] = low(word);
-    to[apart + at] = low(word / 256);
-    to[2 * apart + at] = low(word / 65536);
-    to[3 * apart + at] = low(word / 16777216);
+    let [a, b, c, d] = word.to_le_bytes();
+    to[at] = a;
+    to[apart + at] = b;
+    to[2 * apart + at] = c;
+    to[3 * apart + at] = d;
 }
 
 // A word whose bytes are rotated up so many places.
@@ -161,7 +105,7 @@ pub fn rotated(word: u32, by: u32) -> u32
     requires { by < 4 }
     ensures { (b : ℕ) → b < 4 → word_byte result b ≡ word_byte word ((b + (4 - by)) % 4) }
 {
-    (word << (by * 8)) | (word >> ((32 - by * 8) % 32))
+    word.rotate_left(by * 8)
 }
 
 // A word whose bytes are rotated back down so many places.
@@ -169,7 +113,7 @@ pub fn rotated_back(word: u32, by: u32) -> u32
     requires { by < 4 }
     ensures { (b : ℕ) → b < 4 → word_byte result b ≡ word_byte word ((b + by) % 4) }
 {
-    (word >> (by * 8)) | (word << ((32 - by * 8) % 32))
+    word.rotate_right(by * 8)
 }
 
 // By number below 16: its four bits, the first in the lowest byte.
@@ -178,20 +122,13 @@ const NIBBLES: [u32; 16] = [
     0x1010001, 0x101, 0x1000101, 0x10101, 0x1010101,
 ];
 
-// The table above. A loop keeps it in a local, since a constant that is indexed in a loop is copied at each turn.
-fn nibbles() -> [u32; 16]
-    ensures { result ≡ tabulate 16 nibble }
-{
-    NIBBLES
-}
-
 // The bits of a byte, one an element, at the start of `out`.
 fn put_bits(words: &[u32; 16], byte: u8, out: &mut [u8])
     requires { (words.now ≡ tabulate 16 nibble) × (8 ≤ length out.old) }
     ensures { out.new ≡ written 8 (λ j. bit_at (7 - j) byte) out.old }
 {
-    scatter(words[(byte / 16) as usize], 0, 1, out);
-    scatter(words[(byte % 16) as usize], 4, 1, out);
+    scatter(words[usize::from(byte / 16)], 0, 1, out);
+    scatter(words[usize::from(byte % 16)], 4, 1, out);
 }
 
 // The bits of some bytes, one an element, at the start of `out`.
@@ -199,12 +136,10 @@ pub fn unpack(bytes: &[u8], out: &mut [u8])
     requires { (length bytes.now < 65536) × (8 * length bytes.now ≤ length out.old) }
     ensures { out.new ≡ written (8 * length bytes.now) (bit_of bytes.now) out.old }
 {
-    let words = nibbles();
-    let mut k: usize = 0;
-    while k < bytes.len() {
-        let at = 8 * k;
-        put_bits(&words, bytes[k], &mut out[at..]);
-        k += 1;
+    // A local, since a constant that is indexed in a loop is copied at each turn, and with a static this takes 8 % longer.
+    let words = NIBBLES;
+    for (k, byte) in bytes.iter().enumerate() {
+        put_bits(&words, *byte, &mut out[8 * k..]);
     }
 }
 
@@ -214,7 +149,7 @@ fn pack_nibble(a: u8, b: u8, c: u8, d: u8) -> u8
     requires { (a < 2) × (b < 2) × (c < 2) × (d < 2) }
     ensures { result ≡ a * 8 + b * 4 + c * 2 + d }
 {
-    let word = a as u64 + b as u64 * 256 + c as u64 * 65536 + d as u64 * 16777216;
+    let word = u64::from(u32::from_le_bytes([a, b, c, d]));
     (word * 134480385 / 16777216 % 16) as u8
 }
 
@@ -235,10 +170,8 @@ pub fn pack(bits: &[u8], count: usize, out: &mut [u8])
     requires by_index { (i : ℕ) → i < 8 * count → get_or bits.now i 0 < 2 }
     ensures { out.new ≡ written count (byte_of (λ i. get_or bits.now i 0)) out.old }
 {
-    let mut k: usize = 0;
-    while k < count {
+    for k in 0..count {
         out[k] = pack_byte(bits, k);
-        k += 1;
     }
 }
 
@@ -246,7 +179,7 @@ pub fn pack(bits: &[u8], count: usize, out: &mut [u8])
 fn differing(x: u8, y: u8) -> u16
     ensures { result ≡ count 8 (λ j. not (eqb (bit_at (7 - j) x) (bit_at (7 - j) y))) }
 {
-    u8::count_ones(x ^ y) as u16
+    (x ^ y).count_ones() as u16
 }
 
 // How many bits of two lists of as many bytes differ. Eight times 8,191 fits in a u16, and a narrow count is faster.
@@ -255,10 +188,8 @@ pub fn disagreements(a: &[u8], b: &[u8]) -> usize
     ensures { result ≡ count (8 * length a.now) (λ i. not (eqb (bit_of a.now i) (bit_of b.now i))) }
 {
     let mut n: u16 = 0;
-    let mut i: usize = 0;
-    while i < a.len() {
-        n += differing(a[i], b[i]);
-        i += 1;
+    for (x, y) in a.iter().zip(b) {
+        n += differing(*x, *y);
     }
-    n as usize
+    usize::from(n)
 }

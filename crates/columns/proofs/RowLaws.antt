@@ -8,7 +8,7 @@ use lib.Bits.{bit_and, and_shr, and_mod, and_mask}
 use lib.Dec.{lit<}
 use lib.ListN.{length, get_or}
 use lib.Pow.{shr-shr, field, mod-mod-pow}
-use borrow.Author.Tests.{eq-eqb, ne_eqb}
+use borrow.Author.Tests.{eq-eqb}
 use Rattle.bits.specs.Lists.{written}
 use Rattle.bits.specs.Bits.{bit_at, bit_of}
 use Rattle.bits.proofs.BitLaws.{byte-bit}
@@ -22,9 +22,6 @@ use Rattle.columns.specs.Loops.Heights.{tallest}
 
 pub in_bytes : (h : ℕ) → h % 8 ≡ 0 → h ≤ tallest h → h ≤ 1040
 in_bytes h e l = rw (eq-eqb (h % 8) 0 e) at l
-
-pub not-in-bytes : (h : ℕ) → (h % 8 ≡ 0 → ⊥) → h ≤ tallest h → h ≤ 130
-not-in-bytes h n l = rw (ne_eqb (h % 8) 0 n) at l
 
 -- ---- one bit of each byte of a word
 

@@ -24,10 +24,8 @@ fn put_rows(word: u32, out: &mut [u8])
     requires { 32 ≤ length out.old }
     ensures { out.new ≡ written 32 (λ k. bit_at (7 - k / 4) (word_byte word (k % 4))) out.old }
 {
-    let mut j: usize = 0;
-    while j < 8 {
+    for j in 0..8 {
         bits::scatter(row(word, j), 4 * j, 1, out);
-        j += 1;
     }
 }
 
@@ -36,23 +34,19 @@ fn rows_by_words(height: usize, bytes: &[u8], out: &mut [u8])
     requires { (length bytes.now ≡ 4 * height) × (height ≤ 130) × (32 * height ≤ length out.old) }
     ensures { out.new ≡ written (32 * height) (rowed (8 * height) (bit_of bytes.now)) out.old }
 {
-    let mut i: usize = 0;
-    while i < height {
-        let at = 32 * i;
-        put_rows(bits::gather(bytes, i, height), &mut out[at..]);
-        i += 1;
+    for i in 0..height {
+        put_rows(bits::gather(bytes, i, height), &mut out[32 * i..]);
     }
 }
 
-// The rows of columns of bits, one an element, row by row.
+// The rows of columns of bits, one an element, row by row. There and back are two loops: one would take the strides of both sides, and say
+// less of either.
 fn put_elements(height: usize, bits: &[u8], out: &mut [u8])
     requires { (height ≤ 130) × (4 * height ≤ length bits.now) × (4 * height ≤ length out.old) }
     ensures { out.new ≡ written (4 * height) (rowed height (λ k. get_or bits.now k 0)) out.old }
 {
-    let mut r: usize = 0;
-    while r < height {
+    for r in 0..height {
         bits::scatter(bits::gather(bits, r, height), 4 * r, 1, out);
-        r += 1;
     }
 }
 
@@ -74,29 +68,19 @@ pub fn to_rows(height: usize, bytes: &[u8], out: &mut [u8])
 {
     if height % 8 == 0 {
         rows_by_words(height / 8, bytes, out);
-        return;
+    } else {
+        rows_by_bits(height, bytes, out);
     }
-    rows_by_bits(height, bytes, out);
 }
 
-// Twice a number, by a rotation, which is faster here than a product.
-fn doubled(x: u32) -> u32
-    requires { x < 2147483648 }
-    ensures { result ≡ 2 * x }
-{
-    (x << 1) | (x >> 31)
-}
-
-// The word whose bytes are the columns of eight rows, from `at` on.
+// The word whose bytes are the columns of eight rows, from `at` on. A rotation doubles it, which is faster here than a product.
 fn take_rows(rows: &[u8], at: usize) -> u32
     requires { (at + 32 ≤ length rows.now) × ((j : ℕ) → j < 32 → get_or rows.now (at + j) 0 < 2) }
     ensures { (c : ℕ) → c < 4 → word_byte result c ≡ pack 8 (λ j. get_or rows.now (at + 4 * j + c) 0) }
 {
     let mut word: u32 = 0;
-    let mut j: usize = 0;
-    while j < 8 {
-        word = doubled(word) + bits::gather(rows, at + 4 * j, 1);
-        j += 1;
+    for j in 0..8 {
+        word = word.rotate_left(1) + bits::gather(rows, at + 4 * j, 1);
     }
     word
 }
@@ -107,10 +91,8 @@ fn columns_by_words(height: usize, rows: &[u8], out: &mut [u8])
     requires by_index { (j : ℕ) → j < 32 * height → get_or rows.now j 0 < 2 }
     ensures { out.new ≡ written (4 * height) (byte_of (unrowed (8 * height) (λ j. get_or rows.now j 0))) out.old }
 {
-    let mut i: usize = 0;
-    while i < height {
+    for i in 0..height {
         bits::scatter(take_rows(rows, 32 * i), i, height, out);
-        i += 1;
     }
 }
 
@@ -119,10 +101,8 @@ fn take_elements(height: usize, rows: &[u8], out: &mut [u8])
     requires { (height ≤ 130) × (length rows.now ≡ 4 * height) × (4 * height ≤ length out.old) }
     ensures { out.new ≡ written (4 * height) (unrowed height (λ j. get_or rows.now j 0)) out.old }
 {
-    let mut r: usize = 0;
-    while r < height {
+    for r in 0..height {
         bits::scatter(bits::gather(rows, 4 * r, 1), r, height, out);
-        r += 1;
     }
 }
 
@@ -145,7 +125,7 @@ pub fn from_rows(height: usize, rows: &[u8], out: &mut [u8])
 {
     if height % 8 == 0 {
         columns_by_words(height / 8, rows, out);
-        return;
+    } else {
+        columns_by_bits(height, rows, out);
     }
-    columns_by_bits(height, rows, out);
 }

@@ -4,8 +4,7 @@
 // read or written (D24). `rt` stands for the system and prints on standard output; `errors` prints on standard error.
 #![tactic(auto)]
 
-ghost use Rattle.std.specs.Prelude.{◌≡◌, ◌≤◌, length, replicate, IfOk};
-ghost use Rattle.command.specs.Counts.{IsPrefixLen};
+ghost use Rattle.std.specs.Prelude.{◌≡◌, ◌≤◌, length, IfOk};
 ghost use Rattle.job.specs.Jobs.{refusal_lines};
 
 use refusal::Refusal;
@@ -14,38 +13,29 @@ use std::io::Read;
 use std::rt::{Env, Files};
 use std::{fs, io, str};
 
+// Of a file the first 131,072 bytes are read, which is more than any entry takes (D19).
+pub const FILE_ROOM: usize = 131072;
+
 // The first n of some bytes on standard output, or none where there are fewer.
 pub fn put_first(rt: &impl Print, bytes: &[u8], n: usize) -> io::Result<()> {
-    if n <= bytes.len() {
-        output::put(rt, &bytes[..n])?;
-    }
-    Ok(())
+    rt.write_all(bytes.get(..n).unwrap_or(&[]))
 }
 
-// Argument i at the start of `word`: how many bytes it has, and none where it is missing or there is no room for it. Argument 0 is the
-// program's name.
-fn argument(rt: &impl Env, i: usize, word: &mut [u8]) -> usize
-    ensures { result ≤ length word.new }
-{
-    rt.arg(i, word).unwrap_or(0)
+// Argument i, at the start of `word`; it is empty where it is missing or there is no room for it. Argument 0 is the program's name.
+fn argument<'a>(rt: &impl Env, i: usize, word: &'a mut [u8]) -> &'a [u8] {
+    let n = rt.arg(i, word).unwrap_or(0);
+    &word[..n]
 }
 
-// How many arguments the program was called with, its own name among them.
-fn argument_count(rt: &impl Env) -> usize {
-    let mut start = [0u8; 1];
-    for i in 0..usize::MAX {
-        if let Err(FillError::NotPresent) = rt.arg(i, &mut start) {
-            return i;
-        }
-    }
-    usize::MAX
+// Whether there is an argument i.
+fn is_given(rt: &impl Env, i: usize) -> bool {
+    !matches!(rt.arg(i, &mut []), Err(FillError::NotPresent))
 }
 
 // Whether the first argument asks how to call the program.
 fn asks_help(rt: &impl Env) -> bool {
     let mut word = [0u8; 4096];
-    let n = argument(rt, 1, &mut word);
-    matches!(&word[..n], b"-h" | b"--help")
+    matches!(argument(rt, 1, &mut word), b"-h" | b"--help")
 }
 
 // Whether the program was called with so many arguments. Where it was not, `usage` is written: on standard output if that was asked
@@ -57,27 +47,19 @@ pub fn called_with(
     usage: &[u8],
 ) -> io::Result<bool> {
     if asks_help(rt) {
-        output::put(rt, usage)?;
+        rt.write_all(usage)?;
         return Ok(false);
     }
-    let count = argument_count(rt);
-    if count < 1 || count - 1 != arguments {
-        output::put(errors, usage)?;
+    if !is_given(rt, arguments) || is_given(rt, arguments.saturating_add(1)) {
+        errors.write_all(usage)?;
         return Ok(false);
     }
     Ok(true)
 }
 
-// Memory for a file. Of a file the first 131,072 bytes are read, which is more than any entry takes (D19).
-pub fn file_buffer() -> [u8; 131072]
-    ensures { (result ≡ replicate 131072 0) × (131072 ≡ length result) }
-{
-    [0u8; 131072]
-}
-
-// Reads until `buf` is full, the input ends or a read fails: how many bytes there are at the start of `buf`.
-pub fn read_start(from: &mut impl Read, buf: &mut [u8]) -> usize
-    ensures { IsPrefixLen result buf.new }
+// Reads until `buf` is full, the input ends or a read fails, and answers what was read.
+pub fn read_start<'a>(from: &mut impl Read, buf: &'a mut [u8]) -> &'a [u8]
+    ensures { length result.now ≤ length buf.old }
 {
     let mut done = 0;
     while done < buf.len() {
@@ -86,7 +68,7 @@ pub fn read_start(from: &mut impl Read, buf: &mut [u8]) -> usize
             _ => break,
         }
     }
-    done
+    &buf[..done]
 }
 
 // The file of a name. A name that is no UTF-8 text opens none.
@@ -97,21 +79,42 @@ fn open<R: Files>(rt: &R, name: &[u8]) -> io::Result<R::File> {
     }
 }
 
-// The start of the file that argument i names, into `buf`: how many bytes there are. A file that is missing or cannot be opened counts
-// as empty, and standard error says why; where that cannot be written either, it is left out.
-pub fn read_file<R: Env + Files>(rt: &R, errors: &impl Print, i: usize, buf: &mut [u8]) -> usize
-    ensures { IsPrefixLen result buf.new }
+// The start of the file that argument i names, read to `buf`. A file that is missing or cannot be opened counts as empty, and standard
+// error says why; where that cannot be written either, it is left out.
+pub fn read_file<'a, R: Env + Files>(
+    rt: &R,
+    errors: &impl Print,
+    i: usize,
+    buf: &'a mut [u8],
+) -> &'a [u8]
+    ensures { length result.now ≤ length buf.old }
 {
     let mut path = [0u8; 4096];
-    let length = argument(rt, i, &mut path);
-    let name = &path[..length];
+    let name = argument(rt, i, &mut path);
     match open(rt, name) {
         Ok(mut file) => read_start(&mut file, buf),
         Err(why) => {
             let _ = output::put_failure(errors, name, why);
-            0
+            &[]
         }
     }
+}
+
+// Runs a program that was called with the names of two files: `run` takes their bytes.
+pub fn with_files<R: Env + Files + Print, F: FnOnce(&[u8], &[u8]) -> io::Result<()>>(
+    rt: &R,
+    errors: &impl Print,
+    usage: &[u8],
+    run: F,
+) -> io::Result<()>
+    requires { F.IsAlwaysCallable run }
+{
+    if !called_with(rt, errors, 2, usage)? {
+        return Ok(());
+    }
+    let mut first = [0u8; FILE_ROOM];
+    let mut second = [0u8; FILE_ROOM];
+    run(read_file(rt, errors, 1, &mut first), read_file(rt, errors, 2, &mut second))
 }
 
 // A refusal's number and what comes with it, a line each. The length of the text is returned, or an error where it cannot be written.

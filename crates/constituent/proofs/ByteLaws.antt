@@ -1,5 +1,5 @@
 -- The loops over a block's bytes: the tables, and both passes a byte at a time. Assumes nothing.
-use mathlib.Core.Path.{◌≡◌, refl, sym, ap, ap₂, ◌∙◌}
+use mathlib.Core.Path.{◌≡◌, refl, sym, ap, ◌∙◌}
 use mathlib.Core.List.{List}
 use Prim.Native.Nat.{ℕ, zero, suc, ◌+◌, ◌-◌, ◌*◌, ◌/◌, ◌%◌, ◌^◌, ◌≤◌, ◌<◌}
 use native.Mathlib.Nat.{add-zero, add-suc}
@@ -11,8 +11,6 @@ use lib.Pow.{pow_mono, pow-add, shr-shr}
 use mir.Syntax.{w8}
 use mir.Val.{Fits}
 use Rattle.bits.specs.Bits.{bit_of}
-use Rattle.bits.specs.Lists.{tabulate}
-use Rattle.bits.proofs.ListLaws.{get_or-tabulate}
 use Rattle.bits.proofs.NumberLaws.{lt-cases}
 use Rattle.constituent.specs.Encoder.{next, parity, state_at}
 use Rattle.constituent.specs.Pairs.{pair_at}
@@ -47,10 +45,6 @@ pub doubled-at : (taps half i : ℕ) (table : List ℕ) → Doubling taps half t
     → bit_xor (byte_word taps 0 i) (byte_word taps 0 half) ≡ byte_word taps 0 (half + i)
 doubled-at taps half i table d h = let (j, l, e) = d.bit in rw e (sym (word-doubled taps j i (rw (← e) h)))
 
-pub by-table : (taps t : ℕ) (table : List ℕ) → table ≡ tabulate 256 (byte_word taps 0) → t ≡ taps → ByBytes t table
-by-table taps t table e q b h =
-    ap (λ (l : List ℕ). get_or l b 0) e ∙ get_or-tabulate 256 (byte_word taps 0) b 0 h ∙ ap (λ (n : ℕ). byte_word n 0 b) (sym q)
-
 -- the answers e s, .., e 7, eight bits each, the first lowest
 abbrev pub Stacked : (ℕ → ℕ) → ℕ → ℕ → Type 0
 Stacked e s n = (n < 2 ^ (8 * (8 - s))) × ((k : ℕ) → s ≤ k → k < 8 → n / 2 ^ (8 * (k - s)) % 256 ≡ e k)
@@ -80,6 +74,31 @@ module _ (e : ℕ → ℕ) (s n v : ℕ) (h : 0 < s) (st : Stacked e s n) (l : v
 pub stacked-all : (e : ℕ → ℕ) (s n : ℕ) → s ≡ 0 → Stacked e s n → (k : ℕ) → k < 8 → n / 2 ^ (8 * k) % 256 ≡ e k
 stacked-all e s n q st k h = let z : k ≡ k - s = omega arith in ap (λ (m : ℕ). n / 2 ^ (8 * m) % 256) z ∙ st.1 k (omega arith) h
 
+-- ---- a byte
+
+-- what the byte zero does to a state, and the byte to the state zero, give what the byte does to the state
+module _ (taps s b x n : ℕ) (hs : s < 8) (hx : x ≡ byte_word taps 0 b) where
+  word-sum : bit_xor (byte_word taps s 0) x ≡ parities taps (pair_in b) s 4 * 256 + state_at taps (pair_in b) s 4 * 8
+  unfolding byte_word
+  word-sum = ap (bit_xor (byte_word taps s 0)) hx ∙ sym (word-parts taps s b hs)
+
+  pub state-after : StatesBy taps n → (a : ℕ) → a ≡ s * 8 → bit_xor (n / 2 ^ a) x / 8 % 8 * 8 ≡ state_at taps (pair_in b) s 4 * 8
+  state-after by a ha =
+      let z : a ≡ 8 * s = omega arith in
+      let m : bit_xor (n / 2 ^ a) x % 256 ≡ bit_xor (byte_word taps s 0) x % 256 =
+      xor_mod (n / 2 ^ a) x 8
+      ∙ ap (λ (k : ℕ). bit_xor k (x % 256)) (ap (λ (k : ℕ). n / 2 ^ k % 256) z ∙ by s hs)
+      ∙ sym (xor_mod (byte_word taps s 0) x 8) in
+      omega (arith, m, word-sum, state-lt taps (pair_in b) s hs 4)
+
+  pub parities-after : ParitiesBy taps n → (a : ℕ) → a ≡ s * 8 → bit_xor (n / 2 ^ a % 256) (x / 256) ≡ parities taps (pair_in b) s 4
+  parities-after by a ha =
+      let z : a ≡ 8 * s = omega arith in
+      let m : bit_xor (n / 2 ^ a % 256) (x / 256) ≡ bit_xor (byte_word taps s 0) x / 256 =
+      ap (λ (k : ℕ). bit_xor k (x / 256)) (ap (λ (k : ℕ). n / 2 ^ k % 256) z ∙ by s hs)
+      ∙ sym (xor_shr (byte_word taps s 0) x 8) in
+      omega (arith, m, word-sum, state-lt taps (pair_in b) s hs 4)
+
 -- ---- a byte of the block
 
 pub state-append : (taps : ℕ) (p : ℕ → ℕ) (s n m : ℕ) → state_at taps p s (n + m) ≡ state_at taps (λ j. p (n + j)) (state_at taps p s n) m
@@ -107,39 +126,24 @@ module _ (taps : ℕ) (bytes : List ℕ) (from : ℕ) (hf : from < 8) where
           → parity taps (state_at taps (λ j. pair_at (bit_of bytes) (4 * i + j)) (state_by taps bytes from (4 * i)) j) (pair_at (bit_of bytes) (4 * i + j)) ≡ parity_by taps bytes from (4 * i + j)
       bit j = ap (λ (y : ℕ). parity taps y (pair_at (bit_of bytes) (4 * i + j))) (sym (state-append taps (pair_at (bit_of bytes)) from (4 * i) j))
 
-  word-here : (i : ℕ) → byte_word taps (state_by taps bytes from (4 * i)) (get_or bytes i 0) ≡ four_from (parity_by taps bytes from) i * 256 + state_by taps bytes from (4 * i + 4) * 8
-  unfolding byte_word
-  word-here i =
-      ap₂ (λ (m n : ℕ). m * 256 + n * 8)
-      (parities-ext taps (pair_in (get_or bytes i 0)) (λ j. pair_at (bit_of bytes) (4 * i + j)) (state_by taps bytes from (4 * i)) 4 (pair-in-byte bytes i) ∙ digits i)
-      (state-ext taps (pair_in (get_or bytes i 0)) (λ j. pair_at (bit_of bytes) (4 * i + j)) (state_by taps bytes from (4 * i)) 4 (pair-in-byte bytes i)
-      ∙ sym (state-append taps (pair_at (bit_of bytes)) from (4 * i) 4))
-
-  word_sum : (i x : ℕ) → x ≡ byte_word taps 0 (get_or bytes i 0)
-      → bit_xor (byte_word taps (state_by taps bytes from (4 * i)) 0) x ≡ four_from (parity_by taps bytes from) i * 256 + state_by taps bytes from (4 * i + 4) * 8
-  word_sum i x e =
-      ap (bit_xor (byte_word taps (state_by taps bytes from (4 * i)) 0)) e
-      ∙ sym (word-parts taps (state_by taps bytes from (4 * i)) (get_or bytes i 0) (state-lt taps (pair_at (bit_of bytes)) from hf (4 * i)))
-      ∙ word-here i
-
-  pub state-turn : (i a x n : ℕ) → StatesBy taps n → a ≡ state_by taps bytes from (4 * i) * 8 → x ≡ byte_word taps 0 (get_or bytes i 0)
-      → bit_xor (n / 2 ^ a) x / 8 % 8 * 8 ≡ state_by taps bytes from (4 * (i + 1)) * 8
-  state-turn i a x n by ha hx =
+  -- what a byte does is what its four pairs do, with the state before it times eight
+  pub state-turn : (i a x r : ℕ) → a ≡ state_by taps bytes from (4 * i) * 8 → x ≡ get_or bytes i 0 → ((s : ℕ) → s < 8 → a ≡ s * 8 → r ≡ state_at taps (pair_in x) s 4 * 8)
+      → r ≡ state_by taps bytes from (4 * (i + 1)) * 8
+  state-turn i a x r ha hx hr =
       let s : ℕ = state_by taps bytes from (4 * i) in
-      let z : a ≡ 8 * s = omega arith in
-      let m : bit_xor (n / 2 ^ a) x % 256 ≡ bit_xor (byte_word taps s 0) x % 256 =
-      xor_mod (n / 2 ^ a) x 8
-      ∙ ap (λ (k : ℕ). bit_xor k (x % 256)) (ap (λ (k : ℕ). n / 2 ^ k % 256) z ∙ by s (state-lt taps (pair_at (bit_of bytes)) from hf (4 * i)))
-      ∙ sym (xor_mod (byte_word taps s 0) x 8) in
       let q : 4 * (i + 1) ≡ 4 * i + 4 = omega arith in
-      rw q (omega (arith, m, word_sum i x hx, state-lt taps (pair_at (bit_of bytes)) from hf (4 * i + 4)))
+      hr s (state-lt taps (pair_at (bit_of bytes)) from hf (4 * i)) ha
+      ∙ ap (λ (m : ℕ). m * 8)
+      (ap (λ (b : ℕ). state_at taps (pair_in b) s 4) hx
+      ∙ state-ext taps (pair_in (get_or bytes i 0)) (λ j. pair_at (bit_of bytes) (4 * i + j)) s 4 (pair-in-byte bytes i)
+      ∙ sym (state-append taps (pair_at (bit_of bytes)) from (4 * i) 4)
+      ∙ ap (state_by taps bytes from) (sym q))
 
-  pub parity-turn : (i a x n : ℕ) → ParitiesBy taps n → a ≡ state_by taps bytes from (4 * i) * 8 → x ≡ byte_word taps 0 (get_or bytes i 0)
-      → bit_xor (n / 2 ^ a % 256) (x / 256) ≡ four_from (parity_by taps bytes from) i
-  parity-turn i a x n by ha hx =
+  pub parity-turn : (i a x r : ℕ) → a ≡ state_by taps bytes from (4 * i) * 8 → x ≡ get_or bytes i 0 → ((s : ℕ) → s < 8 → a ≡ s * 8 → r ≡ parities taps (pair_in x) s 4)
+      → r ≡ four_from (parity_by taps bytes from) i
+  parity-turn i a x r ha hx hr =
       let s : ℕ = state_by taps bytes from (4 * i) in
-      let z : a ≡ 8 * s = omega arith in
-      let m : bit_xor (n / 2 ^ a % 256) (x / 256) ≡ bit_xor (byte_word taps s 0) x / 256 =
-      ap (λ (k : ℕ). bit_xor k (x / 256)) (ap (λ (k : ℕ). n / 2 ^ k % 256) z ∙ by s (state-lt taps (pair_at (bit_of bytes)) from hf (4 * i)))
-      ∙ sym (xor_shr (byte_word taps s 0) x 8) in
-      omega (arith, m, word_sum i x hx, state-lt taps (pair_at (bit_of bytes)) from hf (4 * i + 4))
+      hr s (state-lt taps (pair_at (bit_of bytes)) from hf (4 * i)) ha
+      ∙ ap (λ (b : ℕ). parities taps (pair_in b) s 4) hx
+      ∙ parities-ext taps (pair_in (get_or bytes i 0)) (λ j. pair_at (bit_of bytes) (4 * i + j)) s 4 (pair-in-byte bytes i)
+      ∙ digits i

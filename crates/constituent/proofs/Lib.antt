@@ -6,4 +6,5 @@ pub mod PassLaws
 mod StepLaws
 mod LinearLaws
 mod ByteLaws
+mod ChunkLaws
 mod FoldLaws

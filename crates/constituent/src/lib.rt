@@ -4,22 +4,17 @@
 // Internal: nothing here is a public entry. A function with a `requires` is called only where its caller has shown it.
 #![tactic(auto)]
 
-ghost use Rattle.std.specs.Prelude.{◌≡◌, ◌+◌, ◌*◌, ◌/◌, ◌%◌, ◌^◌, ◌<◌, ◌≤◌, length, replicate};
-ghost use Rattle.std.specs.Int.Bits.{bit_xor};
+ghost use Rattle.std.specs.Prelude.{◌≡◌, ℕ, ◌+◌, ◌*◌, ◌/◌, ◌%◌, ◌<◌, ◌≤◌, length, replicate};
 ghost use Rattle.bits.specs.Bits.{bit_of, byte_of};
-ghost use Rattle.bits.specs.Lists.{tabulate, written};
+ghost use Rattle.bits.specs.Lists.{written};
 ghost use Rattle.card.specs.Modes.{block_bytes};
 ghost use Rattle.constituent.specs.Pairs.{pair_at};
-ghost use Rattle.constituent.specs.Encoder.{next, parity, start_of};
-ghost use Rattle.constituent.specs.Loops.Bytes.{byte_word, Doubling, ByBytes, ByStates, pair_in};
+ghost use Rattle.constituent.specs.Encoder.{next, parity, state_at, start_of};
+ghost use Rattle.constituent.specs.Loops.Bytes.{parities, byte_word, Doubling, ByBytes, StatesBy, ParitiesBy, pair_in};
 ghost use Rattle.constituent.specs.Loops.Passes.{SameEnd, Ended, Started, Blocks, multiplexed};
 
-// The three rows of M, by kind.
-const ROW1: [u8; 5] = [1, 1, 3, 5, 1];
-
-const ROW2: [u8; 5] = [5, 5, 4, 7, 5];
-
-const ROW3: [u8; 5] = [7, 7, 2, 6, 7];
+// The three rows of M, by kind. A constant would be copied at each use.
+static MATRICES: [[u8; 3]; 5] = [[1, 5, 7], [1, 5, 7], [3, 4, 2], [5, 7, 6], [1, 5, 7]];
 
 // The step of an encoder with a pair.
 fn step(taps: u16, state: u8, pair: u8) -> u8
@@ -39,7 +34,7 @@ fn parity_bit(taps: u16, state: u8, pair: u8) -> u8
 {
     let word = state * 4 + pair;
     let mask = (taps % 32) as u8;
-    (u8::count_ones(word & mask) % 2) as u8
+    ((word & mask).count_ones() % 2) as u8
 }
 
 // Pair j of a byte.
@@ -57,14 +52,12 @@ fn byte_word(taps: u16, state: u8, byte: u8) -> u16
 {
     let mut s = state;
     let mut parities: u16 = 0;
-    let mut j: usize = 0;
-    while j < 4 {
+    for j in 0..4 {
         let u = pair_in(byte, j);
-        parities = parities * 4 + parity_bit(taps, s, u) as u16;
+        parities = parities * 4 + u16::from(parity_bit(taps, s, u));
         s = step(taps, s, u);
-        j += 1;
     }
-    parities * 256 + s as u16 * 8
+    parities * 256 + u16::from(s) * 8
 }
 
 // As many entries of the table again: an encoder is linear, so a byte does what its highest bit does and what the rest does.
@@ -73,75 +66,19 @@ fn double(taps: u16, half: usize, table: &mut [u16])
     ensures { table.new ≡ written (2 * half) (byte_word taps 0) table.old }
 {
     let top = byte_word(taps, 0, half as u8);
-    let mut i: usize = 0;
-    while i < half {
+    for i in 0..half {
         table[half + i] = table[i] ^ top;
-        i += 1;
     }
 }
 
-// What each byte does to an encoder in the state zero.
-fn by_bytes(taps: u16, table: &mut [u16])
-    requires { length table.old ≡ 256 }
-    ensures { table.new ≡ tabulate 256 (byte_word taps 0) }
+// What each byte does to an encoder in the state zero: the byte zero does nothing.
+fn by_bytes(taps: u16, table: &mut [u16; 256])
+    ensures { ByBytes taps table.new }
 {
     table[0] = 0;
-    let mut half: usize = 1;
-    while half < 256 {
-        double(taps, half, table);
-        half = 2 * half;
+    for bit in 0u8..8 {
+        double(taps, 1 << bit, table);
     }
-}
-
-// What the byte zero does to an encoder, eight bits for each of its states: eight times the state after it, and the parity bits.
-#[derive(Clone, Copy)]
-pub struct Rows {
-    pub taps: u16,
-    pub states: u64,
-    pub parities: u64,
-}
-
-// The rows of an encoder.
-fn by_states(taps: u16) -> Rows
-    ensures { (result.taps ≡ taps) × ByStates result }
-{
-    let mut states: u64 = 0;
-    let mut parities: u64 = 0;
-    let mut s: u8 = 8;
-    while s > 0 {
-        s -= 1;
-        let word = byte_word(taps, s, 0);
-        states = states * 256 + (word % 256) as u64;
-        parities = parities * 256 + (word / 256) as u64;
-    }
-    Rows {
-        taps,
-        states,
-        parities,
-    }
-}
-
-// Eight times the state after a byte, from eight times the state before it and what the byte does.
-fn moved(states: u64, state: u64, word: u16) -> u64
-    requires { state < 64 }
-    ensures { result ≡ bit_xor (states / 2 ^ state) word / 8 % 8 * 8 }
-{
-    ((states >> state) ^ word as u64) / 8 % 8 * 8
-}
-
-// The parity bits that a byte gives, from eight times the state before it and what the byte does.
-fn given(parities: u64, state: u64, word: u16) -> u8
-    requires { state < 64 }
-    ensures { result ≡ bit_xor (parities / 2 ^ state % 256) (word / 256) }
-{
-    ((parities >> state) % 256) as u8 ^ (word / 256) as u8
-}
-
-// A byte as an index.
-fn wide(x: u8) -> usize
-    ensures { result ≡ x }
-{
-    x as usize
 }
 
 // Where pass two starts when pass one ended at sn.
@@ -149,7 +86,8 @@ fn start_of(kind: usize, sn: u8) -> u8
     requires { (kind < 5) × (sn < 8) }
     ensures { result ≡ start_of kind sn }
 {
-    (sn / 4 % 2 * ROW1[kind]) ^ ((sn / 2 % 2 * ROW2[kind]) ^ (sn % 2 * ROW3[kind]))
+    let [row1, row2, row3] = MATRICES[kind];
+    (sn / 4 % 2 * row1) ^ ((sn / 2 % 2 * row2) ^ (sn % 2 * row3))
 }
 
 // Four pairs in a byte.
@@ -167,100 +105,135 @@ pub struct States {
     pub second: u8,
 }
 
+impl States {
+    // Where pass two of both encoders starts when pass one ended here.
+    fn ring_starts(self, kind: usize) -> States
+        requires { (kind < 5) × (self.first < 8) × (self.second < 8) }
+        ensures { (result.first ≡ start_of kind self.first) × (result.second ≡ start_of kind self.second) }
+    {
+        States {
+            first: start_of(kind, self.first),
+            second: start_of(kind, self.second),
+        }
+    }
+}
+
 // A shorter list that takes every encoder from the state zero to where the bytes take it: an encoder without input is back after seven
-// bytes, so bytes that stand 56 apart do as much as their sum. `sums` is zero before.
-fn fold(bytes: &[u8], sums: &mut [u8])
-    requires { (length bytes.now < 65536) × (sums.old ≡ replicate 63 0) }
+// bytes, so bytes that stand 56 apart do as much as their sum. `sums` is zero before: an array that is handed out is copied, which takes
+// 20 ns.
+fn fold(bytes: &[u8], sums: &mut [u8; 63])
+    requires { sums.old ≡ replicate 63 0 }
     ensures { SameEnd bytes.now sums.new }
 {
-    let mut at: usize = 0;
-    while 56 <= bytes.len() - at {
-        let end = at + 56;
-        bits::add_bytes(&bytes[at..end], sums);
-        at = end;
+    let chunks = bytes.chunks_exact(56);
+    let rest = chunks.remainder();
+    for chunk in chunks {
+        bits::add_bytes(chunk, sums);
     }
-    bits::add_bytes(&bytes[at..], sums);
+    bits::add_bytes(rest, sums);
 }
 
-// Pass one of both encoders, from the state zero to the end of two lists: a byte at a time.
-fn walk(rows: Rows, table: &[u16; 256], bytes: &[u8], second: &[u8]) -> States
-    requires bytes_in_bounds { length bytes.now ≤ length second.now }
-    requires by_states { ByStates rows × ByBytes rows.taps table.now }
-    ensures { Ended rows.taps bytes.now second.now (length bytes.now) result }
-{
-    let states = rows.states;
-    let mut a: u64 = 0;
-    let mut b: u64 = 0;
-    let mut i: usize = 0;
-    while i < bytes.len() {
-        a = moved(states, a, table[wide(bytes[i])]);
-        b = moved(states, b, table[wide(second[i])]);
-        i += 1;
-    }
-    States {
-        first: (a / 8) as u8,
-        second: (b / 8) as u8,
-    }
+// What bytes do to an encoder with some taps.
+#[derive(Drop)]
+struct Encoder<'a> {
+    taps: u16,
+    // What the byte zero does, eight bits for each state: eight times the state after it, and the parity bits.
+    states: u64,
+    parities: u64,
+    // What each byte does to the state zero.
+    table: &'a [u16; 256],
+    ghost after: { StatesBy taps states },
+    ghost gives: { ParitiesBy taps parities },
+    ghost words: { ByBytes taps table.now },
 }
 
-// Pass one of both encoders, from the state zero to the end of two lists. Long lists are folded first, which is faster.
-fn pass_one(rows: Rows, table: &[u16; 256], bytes: &[u8], second: &[u8]) -> States
-    requires bytes_in_bounds { (length bytes.now ≤ length second.now) × (length bytes.now < 65536) }
-    requires by_states { ByStates rows × ByBytes rows.taps table.now }
-    ensures { Ended rows.taps bytes.now second.now (length bytes.now) result }
-{
-    let n = bytes.len();
-    if n < 64 {
-        return walk(rows, table, bytes, second);
+impl<'a> Encoder<'a> {
+    fn new(taps: u16, table: &'a [u16; 256]) -> Self
+        requires { ByBytes taps table.now }
+        ensures { result.taps ≡ taps }
+    {
+        let mut states: u64 = 0;
+        let mut parities: u64 = 0;
+        for s in (0u8..8).rev() {
+            let word = byte_word(taps, s, 0);
+            states = states * 256 + u64::from(word % 256);
+            parities = parities * 256 + u64::from(word / 256);
+        }
+        Encoder {
+            taps,
+            states,
+            parities,
+            table,
+        }
     }
-    let mut first = [0u8; 63];
-    let mut other = [0u8; 63];
-    fold(bytes, &mut first);
-    fold(&second[..n], &mut other);
-    let end = 56 + n % 7;
-    walk(rows, table, &first[..end], &other[..end])
-}
 
-// Where pass two of both encoders starts.
-fn ring_starts(kind: usize, rows: Rows, table: &[u16; 256], bytes: &[u8], second: &[u8]) -> States
-    requires blocks { Blocks kind bytes.now second.now }
-    requires by_states { ByStates rows × ByBytes rows.taps table.now }
-    ensures { Started kind rows.taps bytes.now second.now result }
-{
-    let ends = pass_one(rows, table, bytes, second);
-    States {
-        first: start_of(kind, ends.first),
-        second: start_of(kind, ends.second),
+    // Eight times the state after a byte, from eight times the state before it.
+    fn moved(&self, state: u64, byte: u8) -> u64
+        requires { state < 64 }
+        ensures small { result < 64 }
+        ensures after { (s : ℕ) → s < 8 → state ≡ s * 8 → result ≡ state_at self.now.taps (pair_in byte) s 4 * 8 }
+    {
+        ((self.states >> state) ^ u64::from(self.table[usize::from(byte)])) / 8 % 8 * 8
     }
-}
 
-// Pass two of both encoders: the parity bits of both, multiplexed, eight to a byte, at the start of `out`.
-fn pack_parity(
-    kind: usize,
-    rows: Rows,
-    table: &[u16; 256],
-    from: States,
-    bytes: &[u8],
-    second: &[u8],
-    out: &mut [u8],
-)
-    requires blocks { Blocks kind bytes.now second.now }
-    requires by_states { ByStates rows × ByBytes rows.taps table.now }
-    requires started { Started kind rows.taps bytes.now second.now from × (block_bytes kind ≤ length out.old) }
-    ensures { out.new ≡ written (block_bytes kind) (byte_of (multiplexed kind rows.taps (pair_at (bit_of bytes.now)) (pair_at (bit_of second.now)))) out.old }
-{
-    let states = rows.states;
-    let parities = rows.parities;
-    let mut a = from.first as u64 * 8;
-    let mut b = from.second as u64 * 8;
-    let mut i: usize = 0;
-    while i < bytes.len() {
-        let p = table[wide(bytes[i])];
-        let q = table[wide(second[i])];
-        out[i] = 2 * given(parities, a, p) + given(parities, b, q);
-        a = moved(states, a, p);
-        b = moved(states, b, q);
-        i += 1;
+    // The parity bits that a byte gives, from eight times the state before it.
+    fn given(&self, state: u64, byte: u8) -> u8
+        requires { state < 64 }
+        ensures { (s : ℕ) → s < 8 → state ≡ s * 8 → result ≡ parities self.now.taps (pair_in byte) s 4 }
+    {
+        ((self.parities >> state) % 256) as u8 ^ (self.table[usize::from(byte)] / 256) as u8
+    }
+
+    // Pass one of both encoders, from the state zero to the end of two lists: a byte at a time.
+    fn walk(&self, bytes: &[u8], second: &[u8]) -> States
+        requires { length bytes.now ≤ length second.now }
+        ensures { Ended self.now.taps bytes.now second.now (length bytes.now) result }
+    {
+        let mut a: u64 = 0;
+        let mut b: u64 = 0;
+        for (x, y) in bytes.iter().zip(second) {
+            a = self.moved(a, *x);
+            b = self.moved(b, *y);
+        }
+        States {
+            first: (a / 8) as u8,
+            second: (b / 8) as u8,
+        }
+    }
+
+    // Pass one of both encoders, from the state zero to the end of two lists. Long lists are folded first, which is faster.
+    fn pass_one(&self, bytes: &[u8], second: &[u8]) -> States
+        requires { length bytes.now ≤ length second.now }
+        ensures { Ended self.now.taps bytes.now second.now (length bytes.now) result }
+    {
+        let n = bytes.len();
+        if n < 64 {
+            return self.walk(bytes, second);
+        }
+        let mut first = [0u8; 63];
+        let mut other = [0u8; 63];
+        fold(bytes, &mut first);
+        fold(&second[..n], &mut other);
+        let end = 56 + n % 7;
+        self.walk(&first[..end], &other[..end])
+    }
+
+    // Pass two of both encoders: the parity bits of both, multiplexed, eight to a byte, at the start of `out`.
+    fn pack_parity(&self, kind: usize, from: States, bytes: &[u8], second: &[u8], out: &mut [u8])
+        requires blocks { Blocks kind bytes.now second.now }
+        requires started { Started kind self.now.taps bytes.now second.now from × (block_bytes kind ≤ length out.old) }
+        ensures { out.new ≡ written (block_bytes kind) (byte_of (multiplexed kind self.now.taps (pair_at (bit_of bytes.now)) (pair_at (bit_of second.now)))) out.old }
+    {
+        let mut a = u64::from(from.first) * 8;
+        let mut b = u64::from(from.second) * 8;
+        for (i, x) in bytes.iter().enumerate() {
+            let y = second[i];
+            let p = self.given(a, *x);
+            a = self.moved(a, *x);
+            let q = self.given(b, y);
+            b = self.moved(b, y);
+            out[i] = 2 * p + q;
+        }
     }
 }
 
@@ -271,7 +244,7 @@ pub fn parity_bytes(kind: usize, taps: u16, bytes: &[u8], second: &[u8], out: &m
 {
     let mut table = [0u16; 256];
     by_bytes(taps, &mut table);
-    let rows = by_states(taps);
-    let from = ring_starts(kind, rows, &table, bytes, second);
-    pack_parity(kind, rows, &table, from, bytes, second, out);
+    let encoder = Encoder::new(taps, &table);
+    let from = encoder.pass_one(bytes, second).ring_starts(kind);
+    encoder.pack_parity(kind, from, bytes, second, out);
 }

@@ -1,6 +1,6 @@
 -- Laws of the cycle: the bits on its lanes, a cycle of copies, and the runs of a symbol on it. Assumes nothing.
 use Rattle.std.proofs.Common.{◌≡◌, ℕ, ◌+◌, ◌-◌, ◌*◌, ◌/◌, ◌%◌, ◌<◌, ◌≤◌, min, List, ◌++◌, length, get_or, take, drop, set, refl, sym, ap, ◌∙◌, append_assoc, arith, length-take, length-drop}
-use Rattle.std.proofs.Math.Nat.{lt_of_mul-lt-mul_left, mod-lt, div-lt_iff_lt-mul, div-add-mod'}
+use Rattle.std.proofs.Math.Nat.{lt_of_mul-lt-mul_left, lt_of_mul-lt-mul_right}
 use Rattle.std.proofs.lemmas.List.{get_or-take, get_or-drop, drop-drop, drop_at}
 use lib.Arith.{digits_div, digits_mod}
 use Rattle.bits.specs.Lists.{tabulate, written}
@@ -95,35 +95,32 @@ lane-is C os n = halves (n / 2 % C + get_or os (n / 2 / C) 0) (n % 2) (omega ari
         let rest : (2 * x + r) % 512 % 2 ≡ r = omega arith in
         rw (half, rest) (omega arith)
 
--- the run from carrier k of all symbols on, where lane I carries bit b: up to the end of its symbol, or to the wrap
-module _ (C : ℕ) (os : List ℕ) (k b m : ℕ) (h : k < length os * C) (e : b ≡ (k % C + get_or os (k / C) 0) % 256) (r : m ≡ min (C - k % C) (256 - b)) where
-  some : 0 < C
-  some = lt_of_mul-lt-mul_left (length os) (omega (arith, h))
+-- the run from place c of symbol s on, with item n, where lane I carries bit b: up to the end of its symbol, or to the wrap
+module _ (C : ℕ) (os : List ℕ) (s c n : ℕ) (at : n ≡ 2 * (s * C + c)) (inside : c ≤ C - 1) (more : n < item_count C os) where
+  below : s * C + c < length os * C
+  unfolding item_count carrier_count
+  below = omega (arith, at, more)
 
-  place : k % C < C
-  place = mod-lt k some
+  place : c < C
+  place = omega (arith, lt_of_mul-lt-mul_left (length os) {m = 0} {n = C} (omega (arith, below)))
 
-  at : k ≡ k / C * C + k % C
-  at = sym (div-add-mod' k C)
+  pub run-symbol : s < length os
+  run-symbol = lt_of_mul-lt-mul_right C (omega (arith, below))
 
-  pub run-within : k + m ≤ carrier_count C os
-  unfolding carrier_count
-  run-within = omega (arith, at, place, row_within (k / C) C (length os) ((div-lt_iff_lt-mul some).1 h))
-
-  pub run-is : IsRun C os (2 * k) (2 * b) (2 * m)
-  unfolding item_count
-  run-is =
+  pub run-is : (b m : ℕ) → b ≡ (c + get_or os s 0) % 256 → m ≡ min (C - c) (256 - b) → IsRun C os n (2 * b) (2 * m)
+  unfolding item_count carrier_count
+  run-is b m e r =
       record {
         some = omega (arith, place);
-        within = omega (arith, run-within);
+        within = omega (arith, at, place, row_within s C (length os) run-symbol);
         on_cycle = omega arith;
         in_row = λ j l.
             rw (there j)
-            (cycle-at C os (k / C) (2 * (k / C * C)) (2 * (k % C) + j) refl (omega (arith, place))
-            ∙ sym (run_lane (get_or os (k / C) 0) (k % C) b j m e (omega arith) l));
+            (cycle-at C os s (2 * (s * C)) (2 * c + j) refl (omega (arith, place))
+            ∙ sym (run_lane (get_or os s 0) c b j m e (omega arith) l));
       }
     where
-      there : (j : ℕ) → 2 * k + j ≡ 2 * (k / C * C) + (2 * (k % C) + j)
+      there : (j : ℕ) → n + j ≡ 2 * (s * C) + (2 * c + j)
       there j = omega (arith, at)
 
 -- the copies of a run are put behind those before it

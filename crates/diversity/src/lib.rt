@@ -7,7 +7,7 @@ ghost use Rattle.std.specs.Prelude.{◌≡◌, ◌+◌, ◌-◌, ◌*◌, ◌%�
 ghost use Rattle.std.specs.Iterator.{at_most};
 ghost use Rattle.bits.specs.Lists.{tabulate, written};
 ghost use Rattle.bands.specs.Bands.{carriers, offsets};
-ghost use Rattle.diversity.specs.Lanes.{lane_bit, carrier_count, item_count};
+ghost use Rattle.diversity.specs.Lanes.{lane_bit, item_count};
 ghost use Rattle.diversity.specs.Loops.Cycle.{cycle_bit, IsRun};
 
 use bands::{Band, Place};
@@ -41,11 +41,13 @@ impl<'a> Symbols<'a> {
 
     // The runs of all items, in order.
     pub fn runs(&self) -> Runs<'a>
-        ensures { (result.symbols ≡ self.now) × (result.carrier ≡ 0) }
+        ensures { (result.symbols ≡ self.now) × (result.item ≡ 0) }
     {
         Runs {
             symbols: *self,
-            carrier: 0,
+            symbol: 0,
+            place: 0,
+            item: 0,
         }
     }
 
@@ -86,12 +88,17 @@ pub struct Run {
     pub count: usize,
 }
 
-// The runs of the items from a carrier on, over all symbols: each goes up to where lane I's bit wraps, or up to the end of its symbol.
+// The runs from a place of a symbol on, over all symbols: each goes up to where lane I's bit wraps, or up to the end of its symbol. `item` is
+// the item of that place, which is kept beside it so that no run takes a division.
 #[derive(Drop)]
 pub struct Runs<'a> {
     pub symbols: Symbols<'a>,
-    pub carrier: usize,
-    pub ghost within: { carrier ≤ carrier_count symbols.carriers symbols.offsets.now },
+    pub symbol: usize,
+    pub place: usize,
+    pub item: usize,
+    pub ghost in_symbol: { place ≤ symbols.carriers - 1 },
+    pub ghost at_place: { item ≡ 2 * (symbol * symbols.carriers + place) },
+    pub ghost within: { item ≤ item_count symbols.carriers symbols.offsets.now },
 }
 
 impl<'a> Iterator for Runs<'a> {
@@ -99,26 +106,30 @@ impl<'a> Iterator for Runs<'a> {
 
     ghost next_gives = { λ s r t.
         (t.symbols ≡ s.symbols)
-        × MatchOption r (2 * s.carrier ≡ item_count s.symbols.carriers s.symbols.offsets.now)
-        (λ run. (run.item ≡ 2 * s.carrier) × (2 * t.carrier ≡ run.item + run.count) × IsRun s.symbols.carriers s.symbols.offsets.now run.item run.lane run.count) };
+        × MatchOption r (s.item ≡ item_count s.symbols.carriers s.symbols.offsets.now)
+        (λ run. (run.item ≡ s.item) × (t.item ≡ run.item + run.count) × IsRun s.symbols.carriers s.symbols.offsets.now run.item run.lane run.count) };
 
-    ghost remaining = { λ s. at_most (carrier_count s.symbols.carriers s.symbols.offsets.now - s.carrier) };
+    ghost remaining = { λ s. at_most (item_count s.symbols.carriers s.symbols.offsets.now - s.item) };
 
     fn next(&mut self) -> Option<Run> {
-        let Symbols { carriers, offsets } = self.symbols;
-        let from = self.carrier;
-        if offsets.len() * carriers <= from {
+        if self.item == self.symbols.item_count() {
             return None;
         }
-        let place = from % carriers;
-        let bit = usize::from(lane_i(Place(place), offsets[from / carriers]));
-        let run = (carriers - place).min(256 - bit);
-        self.carrier += run;
-        Some(Run {
-            item: 2 * from,
+        let Symbols { carriers, offsets } = self.symbols;
+        let bit = usize::from(lane_i(Place(self.place), offsets[self.symbol]));
+        let length = (carriers - self.place).min(256 - bit);
+        let run = Run {
+            item: self.item,
             lane: 2 * bit,
-            count: 2 * run,
-        })
+            count: 2 * length,
+        };
+        self.item += run.count;
+        self.place += length;
+        if self.place == carriers {
+            self.symbol += 1;
+            self.place = 0;
+        }
+        Some(run)
     }
 }
 

@@ -16,19 +16,14 @@ fn encode(rt: &impl Print, card: &[u8], block: &[u8]) -> io::Result<()> {
     }
 }
 
+const USAGE: &[u8] =
+    b"usage: encode CARD BLOCK > ITEMS\nWrites the items of a word or a block, a byte each, by the card's kind.\n";
+
 fn main(rt: HostRuntime) -> io::Result<()> {
-    let errors = rt.stderr();
-    if !command::called_with(
+    command::with_files(
         &rt,
-        &errors,
-        2,
-        b"usage: encode CARD BLOCK > ITEMS\nWrites the items of a word or a block, a byte each, by the card's kind.\n",
-    )? {
-        return Ok(());
-    }
-    let mut card = command::file_buffer();
-    let card_len = command::read_file(&rt, &errors, 1, &mut card);
-    let mut block = command::file_buffer();
-    let block_len = command::read_file(&rt, &errors, 2, &mut block);
-    encode(&rt, &card[..card_len], &block[..block_len])
+        &rt.stderr(),
+        USAGE,
+        |card, block| encode(&rt, card, block),
+    )
 }

@@ -11,7 +11,10 @@ ghost use Rattle.refusal.specs.Report.{answer};
 ghost use Rattle.frame_control.specs.Entries.{send_by, send as send_outcome, read_by, read as read_outcome};
 
 use bands::Band;
+<<<<<<< HEAD
+=======
 use coding::Coding;
+>>>>>>> 47b3c1119b4ba367d5e0e26d79892d86c98529a4
 use diversity::Symbols;
 use refusal::Refusal;
 

@@ -76,10 +76,10 @@ module _ (L : Shape) (back : Bool) (from : List ℕ) where
       stored-none (λ i. place (n * 4 + i)) (λ i. value (n * 4 + i)) to ∙ ap (λ (k : ℕ). run k (n * 4) to) e
 
   -- nibbles n to m - 1, and then m to k - 1
-  pub carried-join : (n m k : ℕ) (to then end : List ℕ) → n ≤ m → m ≤ k
-      → then ≡ carried L back from n m to → end ≡ carried L back from m k then → end ≡ carried L back from n k to
+  pub carried-join : (n m k : ℕ) (to then end : List ℕ) → then ≡ carried L back from n m to → end ≡ carried L back from m k then
+      → n ≤ m → m ≤ k → end ≡ carried L back from n k to
   unfolding carried
-  carried-join n m k to then end h l e d =
+  carried-join n m k to then end e d h l =
       let at : (i : ℕ) → m * 4 + i ≡ n * 4 + ((m - n) * 4 + i) = λ i. omega arith in
       let count : (m - n) * 4 + (k - m) * 4 ≡ (k - n) * 4 = omega arith in
       d

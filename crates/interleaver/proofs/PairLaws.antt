@@ -4,13 +4,12 @@ use mathlib.Core.Bool.{true, false}
 use Prim.Native.Nat.{ℕ, ◌+◌, ◌*◌, ◌/◌, ◌%◌, ◌<◌}
 use native.Mathlib.Nat.{mod-lt}
 use native.Mathlib.Omega.{arith}
-use lib.Dec.{ltb}
-use borrow.Author.Tests.{le-ltb, eq-eqb, ne_eqb}
+use Rattle.std.proofs.lemmas.Bool.Decides.{nat_tests}
 use Rattle.interleaver_shape.specs.declared.Shape.{Shape}
 use Rattle.interleaver_shape.specs.Loops.Bounds.{Paired}
 use Rattle.interleaver.specs.Loops.Moving.{Orderly}
 use Rattle.interleaver.specs.Rows.{pass_row, moved_row}
-use Rattle.interleaver.specs.Source.{parity_row, group_of, place_in, is_parity, data_place}
+use Rattle.interleaver.specs.Source.{parity_row, group_of, is_parity, data_place}
 use Rattle.interleaver.specs.Loops.RowOrder.{row_of}
 use Rattle.interleaver.specs.Loops.Walks.{OnPass}
 use Rattle.interleaver.proofs.SourceLaws.{row_moved}
@@ -28,14 +27,10 @@ module _ (L : Shape) (S : Orderly L) (P : Paired L) where
   parity-is = let e = rw P.group-is at S.rows_are in omega arith
 
   pair-data : (p : ℕ) → (is_parity L (p * 2) ≡ false) × (data_place L (p * 2) ≡ p)
-  pair-data p =
-      let e : place_in L (p * 2) ≡ 0 = rw P.group-is (omega arith) in
-      let g : group_of L (p * 2) ≡ p = rw P.group-is (omega arith) in
-      let t : ltb L.lead 0 ≡ false = le-ltb L.lead 0 (omega arith) in
-      (ne_eqb (place_in L (p * 2)) L.lead (λ z. omega (arith, P.lead_is)), rw (e, g, t) (rw P.group-is (omega arith)))
+  pair-data p = (grind (arith, nat_tests, P.group-is, P.lead_is), grind (arith, nat_tests, P.group-is, P.lead_is))
 
   pair-parity : (p : ℕ) → (is_parity L (p * 2 + 1) ≡ true) × (group_of L (p * 2 + 1) ≡ p)
-  pair-parity p = (eq-eqb (place_in L (p * 2 + 1)) L.lead (rw (P.group-is, P.lead_is) (omega arith)), rw P.group-is (omega arith))
+  pair-parity p = (grind (arith, nat_tests, P.group-is, P.lead_is), grind (arith, P.group-is))
 
   pub pair-at : (p row pass : ℕ) → OnPass L.rows L.step p pass row → pass < L.step → row < L.rows → Pair L p row
   pair-at p row pass o hj h =
@@ -53,4 +48,4 @@ module _ (L : Shape) (S : Orderly L) (P : Paired L) where
 
 -- both nibbles of a pair are rotated alike
 pub same-rotation : (n place : ℕ) → n ≡ place * 2 → n / 2 % 4 ≡ (n + 1) / 2 % 4
-same-rotation n place e = let h : n / 2 ≡ (n + 1) / 2 = omega arith in ap (λ (t : ℕ). t % 4) h
+same-rotation n place e = omega arith

@@ -4,7 +4,7 @@ use mathlib.Core.Path.{◌≡◌, refl, sym, ap, ap₂, ◌∙◌}
 use mathlib.Core.Bool.{cond}
 use mathlib.Core.List.{List, ◌++◌}
 use Prim.Native.Nat.{ℕ, zero, suc, ◌+◌, ◌-◌, ◌*◌, ◌/◌, ◌%◌, ◌<◌, ◌≤◌, min}
-use native.Mathlib.Nat.{mod-lt, div-add-mod', div-le_self, div-lt_iff_lt-mul, mod-add-mod, add_comm, add-mul, mul-add, mul-sub, mul_comm, suc-mul}
+use native.Mathlib.Nat.{mod-lt, div-add-mod', div-le_self, div-lt_iff_lt-mul, mod-add-mod, add_comm, mul-add, mul-sub, mul_comm}
 use native.Mathlib.Nat.{le-mul_of_pos_right, mul-le-mul_right}
 use native.Mathlib.Omega.{arith}
 use lib.Dec.{ltb, leb}
@@ -75,30 +75,24 @@ module _ (R s : ℕ) (pos : zero < s) where
       long : j < R % s → Passed R s j
       long l = (
         R / s + 1,
-        length-is j (R / s + 1) (omega (arith, whole, le-mul_of_pos_right (R / s) pos))
-            (λ k b. omega (arith, whole, mul-le-mul_right {m = k} {n = R / s} s (omega arith)))
-            (omega (arith, whole, rest, add-mul (R / s) 1 s)),
-        omega (arith, whole, rest, add-mul (R / s) 1 s),
-        omega (arith, suc-mul j (R / s)),
+        length-is j (R / s + 1) (omega (arith, whole, le-mul_of_pos_right (R / s) pos)) (λ k b. grind (arith, whole)) (grind (arith, whole, rest)),
+        grind (arith, whole, rest),
+        grind arith,
         λ k b.
-            let e : pass_start R s j + k ≡ j * (R / s + 1) + k = omega (arith, mul-add j (R / s) 1) in
-            let d : j * (R / s + 1) + k < R % s * (R / s + 1) =
-            omega (arith, suc-mul j (R / s + 1), mul-le-mul_right {m = suc j} {n = R % s} (R / s + 1) l) in
+            let e : pass_start R s j + k ≡ j * (R / s + 1) + k = grind arith in
+            let d : j * (R / s + 1) + k < R % s * (R / s + 1) = grind (arith, mul-le-mul_right {m = suc j} {n = R % s} (R / s + 1) l) in
             ap (row_at R s) e ∙ row-long (j * (R / s + 1) + k) d ∙ ap₂ (λ (a b : ℕ). a + b * s) (digits_div j b) (digits_mod j b),
       )
 
       short : R % s ≤ j → Passed R s j
       short l = (
         R / s,
-        length-is j (R / s) (div-le_self R s)
-            (λ k b. omega (arith, whole, suc-mul k s, mul-le-mul_right {m = suc k} {n = R / s} s b))
-            (omega (arith, whole)),
+        length-is j (R / s) (div-le_self R s) (λ k b. grind (arith, whole, mul-le-mul_right {m = suc k} {n = R / s} s b)) (omega (arith, whole)),
         omega (arith, whole),
-        omega (arith, suc-mul j (R / s)),
+        grind arith,
         λ k b.
             let z : R % s + (j - R % s) ≡ j = omega arith in
-            let e : pass_start R s j + k ≡ R % s * (R / s + 1) + ((j - R % s) * (R / s) + k) =
-            omega (arith, mul-add (R % s) (R / s) 1, add-mul (R % s) (j - R % s) (R / s), ap (λ (x : ℕ). x * (R / s)) z) in
+            let e : pass_start R s j + k ≡ R % s * (R / s + 1) + ((j - R % s) * (R / s) + k) = grind (arith, ap (λ (x : ℕ). x * (R / s)) z) in
             let d : R % s * (R / s + 1) + ((j - R % s) * (R / s) + k) - R % s * (R / s + 1) ≡ (j - R % s) * (R / s) + k = omega arith in
             ap (row_at R s) e ∙ row-short (R % s * (R / s + 1) + ((j - R % s) * (R / s) + k)) (omega arith) ∙ ap (short_row R s) d
             ∙ ap₂ (λ (a b : ℕ). R % s + a + b * s) (digits_div (j - R % s) b) (digits_mod (j - R % s) b) ∙ omega arith,
@@ -125,13 +119,7 @@ module _ (R s : ℕ) (pos : zero < s) where
 
   -- past the longer passes there are rows only where the others have some
   short-pos : (p : ℕ) → p < R → R % s * (R / s + 1) ≤ p → zero < R / s
-  short-pos p h l =
-      lt-cases zero (R / s) (λ z. z) (λ z.
-      absurd
-      (let e : R / s ≡ zero = omega arith in
-      let w = rw e at whole in
-      let n = rw e at l in
-      omega (arith, mul-add (R % s) zero 1)))
+  short-pos p h l = grind (arith, whole)
 
   -- the pass of a place, and how far in it stands
   pub find : (p : ℕ) → p < R → Found R s p
@@ -144,8 +132,8 @@ module _ (R s : ℕ) (pos : zero < s) where
             p / (R / s + 1),
             p % (R / s + 1),
             omega (arith, rest),
-            omega (arith, whole, mul-le-mul_right {m = p % (R / s + 1)} {n = R / s} s (omega arith)),
-            omega (arith, div-add-mod' p (R / s + 1), mul-add (p / (R / s + 1)) (R / s) 1),
+            grind (arith, whole, mul-le-mul_right {m = p % (R / s + 1)} {n = R / s} s (omega arith)),
+            grind (arith, div-add-mod' p (R / s + 1)),
             row-long p l,
           )
 
@@ -161,8 +149,8 @@ module _ (R s : ℕ) (pos : zero < s) where
             r + o / q,
             o % q,
             omega arith,
-            omega (arith, whole, suc-mul (o % q) s, mul-le-mul_right {m = suc (o % q)} {n = q} s hk),
-            omega (arith, div-add-mod' o q, mul-add r q 1, add-mul r (o / q) q),
+            grind (arith, whole, mul-le-mul_right {m = suc (o % q)} {n = q} s hk),
+            grind (arith, div-add-mod' o q),
             row-short p l,
           )
 

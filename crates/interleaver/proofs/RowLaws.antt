@@ -4,11 +4,10 @@ use mathlib.Core.Path.{◌≡◌, sym, ap, ap₂, ◌∙◌}
 use mathlib.Core.Bool.{true, false}
 use Prim.Native.Nat.{ℕ, ◌+◌, ◌-◌, ◌*◌, ◌/◌, ◌%◌, ◌<◌}
 use native.Mathlib.Omega.{arith}
-use lib.Arith.{digits_div, digits_mod, digits_lt}
-use borrow.Author.Tests.{lt-ltb, le-ltb}
+use lib.Arith.{digits_div, digits_mod}
+use Rattle.std.proofs.lemmas.Bool.Decides.{nat_tests}
 use Rattle.bits.specs.Permutations.{Permutes}
 use Rattle.bits.proofs.BoolLaws.{test-cases}
-use Rattle.bits.proofs.NumberLaws.{lt-cases}
 use Rattle.interleaver_shape.specs.declared.Shape.{Shape}
 use Rattle.interleaver_shape.specs.Loops.Bounds.{Sound}
 use Rattle.interleaver_shape.specs.Shapes.{coded_of}
@@ -24,7 +23,7 @@ place-nibble L n b h = ap₂ (λ (m k : ℕ). row_of L m * 4 + column m k) (digi
 -- the row of a nibble of data, and of one of parity
 pub row-data : (L : Shape) (n : ℕ) → is_parity L n ≡ false → row_of L n ≡ data_row L (data_place L n)
 unfolding row_of
-row-data L n e = rw e
+row-data L n e = grind arith
 
 pub row-parity : (L : Shape) (n : ℕ) → is_parity L n ≡ true → row_of L n ≡ L.rows + parity_row L (group_of L n)
 unfolding row_of
@@ -32,19 +31,16 @@ row-parity L n e = rw e
 
 -- place j of rows whose columns were filled one after the other: its number among their bits
 pub filled-lt : (j height : ℕ) → j < height * 4 → j % 4 * height + j / 4 < height * 4
-filled-lt j height h = omega (arith, digits_lt {q = j % 4} {m = 4} {r = j / 4} {c = height} (omega arith) (omega arith))
+filled-lt j height h = grind arith
 
 -- the source bit in column c of a data row, and of a parity row
 at-data : (L : Shape) (r c : ℕ) → c < 4 → r < L.rows → source_at L (r * 4 + c) ≡ c * L.rows + r
 unfolding source_at
-at-data L r c hc h =
-    rw (lt-ltb (r * 4 + c) (L.rows * 4) (omega arith), digits_mod r hc, digits_div r hc)
+at-data L r c hc h = grind (arith, nat_tests)
 
 at-parity : (L : Shape) (r c : ℕ) → c < 4 → source_at L ((L.rows + r) * 4 + c) ≡ L.rows * 4 + (c * L.parity + r)
 unfolding source_at
-at-parity L r c hc =
-    let e : (L.rows + r) * 4 + c - L.rows * 4 ≡ r * 4 + c = omega arith in
-    rw (le-ltb ((L.rows + r) * 4 + c) (L.rows * 4) (omega arith), e, digits_mod r hc, digits_div r hc)
+at-parity L r c hc = grind (arith, nat_tests)
 
 module _ (L : Shape) (S : Sound L) where
   row_lt : (n : ℕ) → n < L.rows + L.parity → row_of L n < L.rows + L.parity
@@ -70,9 +66,7 @@ module _ (L : Shape) (S : Sound L) where
   pub source-at-lt : (j : ℕ) → j < coded_of L → source_at L j < coded_of L
   unfolding source_at
   source-at-lt j h =
-      lt-cases j (L.rows * 4)
-      (λ l. rw (lt-ltb j (L.rows * 4) l) (omega (arith, filled-lt j L.rows l)))
-      (λ l. rw (le-ltb j (L.rows * 4) l) (omega (arith, filled-lt (j - L.rows * 4) L.parity (omega arith))))
+      grind (arith, nat_tests, filled-lt j L.rows, filled-lt (j - L.rows * 4) L.parity)
 
   -- each place is that of one coded bit
   pub place-permutes : Permutes (coded_of L) (place_of L)

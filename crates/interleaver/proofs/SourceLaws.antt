@@ -6,8 +6,10 @@ use native.Mathlib.Nat.{mod-lt, div-add-mod', mul-add, div-lt_iff_lt-mul}
 use native.Mathlib.Omega.{arith}
 use lib.Dec.{ltb}
 use lib.Arith.{digits_div, digits_mod, digits_lt}
-use borrow.Author.Tests.{lt-ltb, le-ltb, eqb-true, eqb-false}
+use borrow.Author.Tests.{eqb-true, eqb-false}
+use Rattle.std.proofs.lemmas.Bool.Decides.{nat_tests}
 use Rattle.bits.specs.Permutations.{Permutes}
+use Rattle.bits.proofs.BoolLaws.{test-cases}
 use Rattle.bits.proofs.NumberLaws.{lt-cases}
 use Rattle.interleaver_shape.specs.declared.Shape.{Shape}
 use Rattle.interleaver.specs.Rows.{pass_row, moved_row, continuous_row}
@@ -28,13 +30,9 @@ skipped : (group lead e : ℕ) → lead ≤ group → e < group + 1 → (e ≡ l
 skipped group lead e hl he ne =
     lt-cases lead e
     (λ h.
-    let s : skip lead e ≡ e - 1 = rw (lt-ltb lead e h) in
-    let u : unskip lead (e - 1) ≡ suc (e - 1) = rw (le-ltb (e - 1) lead (omega arith)) in
-    (omega arith, ap (unskip lead) s ∙ u ∙ omega arith))
+    (grind (arith, nat_tests), grind (arith, nat_tests)))
     (λ h.
-    let s : skip lead e ≡ e = rw (le-ltb lead e h) in
-    let u : unskip lead e ≡ e = rw (lt-ltb e lead (omega arith)) in
-    (omega arith, ap (unskip lead) s ∙ u))
+    (grind (arith, nat_tests), grind (arith, nat_tests)))
 
 order-permutes : (T step offset : ℕ) (b : Bool) → zero < step → (b ≡ true → (inverse : ℕ) × (rounds : ℕ) × (step * inverse ≡ 1 + rounds * T))
     → Permutes T (λ p. cond b (continuous_row T step offset p) (moved_row T offset (pass_row T step p)))
@@ -125,11 +123,10 @@ module _ (L : Shape) (S : Sound L) where
     parity-bit-le c e = omega (arith, bit-parity L O n c e)
 
     pub bit-lt : (c : ℕ) → c < 4 → nibble_bit L n c < coded_of L
-    bit-lt c hc = go (is_parity L n) refl
-      where
-        go : (b : Bool) → is_parity L n ≡ b → nibble_bit L n c < coded_of L
-        go false e = omega (arith, data-bit-lt c hc e)
-        go true e = omega (arith, bit-parity L O n c e, digits_lt {m = 4} {c = L.parity} hc parity-row-lt)
+    bit-lt c hc =
+        test-cases (is_parity L n)
+        (λ e. omega (arith, bit-parity L O n c e, digits_lt {m = 4} {c = L.parity} hc parity-row-lt))
+        (λ e. omega (arith, data-bit-lt c hc e))
 
   module _ (n m c d : ℕ) (hn : n < L.rows + L.parity) (hm : m < L.rows + L.parity) (hc : c < 4) (hd : d < 4) where
     same-data : is_parity L n ≡ false → is_parity L m ≡ false → nibble_bit L n c ≡ nibble_bit L m d → (n ≡ m) × (c ≡ d)

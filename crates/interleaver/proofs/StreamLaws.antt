@@ -1,15 +1,14 @@
 -- The joined stream, nibble by nibble: how many data and parity nibbles come before it, and when the next parity nibble is due.
 -- Assumes nothing.
-use mathlib.Core.Path.{◌≡◌, refl, ap, ◌∙◌}
+use mathlib.Core.Path.{◌≡◌, ap, ◌∙◌}
 use mathlib.Core.Bool.{true, false, cond}
 use Prim.Native.Nat.{ℕ, zero, ◌+◌, ◌-◌, ◌*◌, ◌/◌, ◌%◌, ◌<◌, ◌≤◌}
-use native.Mathlib.Nat.{div-add-mod', add-mul, mul-add, mul-le-mul_right, zero-div, zero-mod, zero-mul}
+use native.Mathlib.Nat.{div-add-mod', add-mul, zero-div, zero-mod}
 use native.Mathlib.Omega.{arith}
-use lib.Dec.{ltb}
 use lib.Arith.{digits_div, digits_mod}
-use borrow.Author.Tests.{lt-ltb, le-ltb, eqb-true, eqb-false, eq-eqb, ne_eqb}
+use borrow.Author.Tests.{eqb-true}
+use Rattle.std.proofs.lemmas.Bool.Decides.{nat_tests}
 use Rattle.bits.proofs.BoolLaws.{test-cases}
-use Rattle.bits.proofs.NumberLaws.{lt-cases}
 use Rattle.interleaver_shape.specs.declared.Shape.{Shape}
 use Rattle.interleaver.specs.Loops.Moving.{Orderly}
 use Rattle.interleaver.specs.Source.{group_of, place_in, is_parity, data_place}
@@ -40,85 +39,40 @@ module _ (L : Shape) (S : Orderly L) where
         ap (λ (x : ℕ). x % (L.group + 1)) e ∙ digits_mod (group_of L n + 1) pos,
       )
 
-  -- the counts by group and place, up to the parity nibble and past it
-  before : (n g e : ℕ) → group_of L n ≡ g → place_in L n ≡ e → e ≤ L.lead → Counts L n (g * L.group + e) g (L.lead - e)
-  unfolding parity_place until_parity
-  before n g e p q h =
-      let t : ltb L.lead e ≡ false = le-ltb L.lead e h in
-      (rw (p, q, t), rw (p, q, t) (omega arith), rw (q, t))
-
-  past : (n g e : ℕ) → group_of L n ≡ g → place_in L n ≡ e → L.lead < e
-      → Counts L n (g * L.group + (e - 1)) (g + 1) (L.lead + (L.group + 1) - e)
-  unfolding parity_place until_parity
-  past n g e p q h =
-      let t : ltb L.lead e ≡ true = lt-ltb L.lead e h in
-      (rw (p, q, t), rw (p, q, t), rw (q, t))
-
-  -- the counts after a nibble that is not before the parity nibble
-  after : (n : ℕ) → L.lead ≤ place_in L n
-      → Counts L (n + 1) (group_of L n * L.group + place_in L n) (group_of L n + 1) (L.lead + L.group - place_in L n)
-  after n l =
-      let g = group_of L n in
-      let e = place_in L n in
-      lt-cases (e + 1) (L.group + 1)
-      (λ m.
-      let (i, j) = next-in n m in
-      let (d, p, u) = past (n + 1) g (e + 1) i j (omega arith) in
-      (omega arith, p, omega arith))
-      (λ m.
-      let z : e ≡ L.group = omega (arith, place-lt L S n) in
-      let (i, j) = next-over n z in
-      let (d, p, u) = before (n + 1) (g + 1) zero i j (omega arith) in
-      (omega (arith, add-mul g 1 L.group), p, omega arith))
-
   -- past a data nibble
   pub data-step : (n : ℕ) → is_parity L n ≡ false → Counts L (n + 1) (data_place L n + 1) (parity_place L n) (until_parity L n - 1)
-  data-step n t =
-      let g = group_of L n in
-      let e = place_in L n in
-      let apart = eqb-false e L.lead t in
-      lt-cases e L.lead
-      (λ l.
-      let (d, p, u) = before n g e refl refl (omega arith) in
-      let (i, j) = next-in n (omega (arith, S.lead-le)) in
-      let (d', p', u') = before (n + 1) g (e + 1) i j (omega arith) in
-      (omega arith, omega arith, omega arith))
-      (λ l.
-      let (d, p, u) = past n g e refl refl (omega arith) in
-      let (d', p', u') = after n l in
-      (omega arith, omega arith, omega arith))
+  unfolding parity_place until_parity
+  data-step n t = (
+    grind (arith, nat_tests, next-in n, next-over n, place-lt L S n, S.lead-le, add-mul (group_of L n) 1 L.group),
+    grind (arith, nat_tests, next-in n, next-over n, place-lt L S n, S.lead-le),
+    grind (arith, nat_tests, next-in n, next-over n, place-lt L S n, S.lead-le),
+  )
 
   -- past a parity nibble
   pub parity-step : (n : ℕ) → is_parity L n ≡ true → Counts L (n + 1) (data_place L n) (parity_place L n + 1) L.group
-  parity-step n t =
-      let here : place_in L n ≡ L.lead = eqb-true (place_in L n) L.lead t in
-      let (d, p, u) = before n (group_of L n) (place_in L n) refl refl (omega arith) in
-      let (d', p', u') = after n (omega arith) in
-      (omega arith, omega arith, omega arith)
+  unfolding parity_place until_parity
+  parity-step n t = (
+    grind (arith, nat_tests, next-in n, next-over n, place-lt L S n, S.lead-le, add-mul (group_of L n) 1 L.group),
+    grind (arith, nat_tests, next-in n, next-over n, place-lt L S n, S.lead-le),
+    grind (arith, nat_tests, next-in n, next-over n, place-lt L S n, S.lead-le),
+  )
 
   -- a parity nibble is due where none of data comes first, and its row is that of its group
   pub parity-due : (n : ℕ) → until_parity L n ≡ zero → is_parity L n ≡ true
-  parity-due n z =
-      let e = place_in L n in
-      eq-eqb e L.lead
-      (lt-cases L.lead e
-      (λ l. let (d, p, u) = past n (group_of L n) e refl refl l in absurd (omega (arith, place-lt L S n)))
-      (λ l. let (d, p, u) = before n (group_of L n) e refl refl l in omega arith))
+  unfolding until_parity
+  parity-due n z = grind (arith, nat_tests, place-lt L S n)
 
   pub until-le : (n : ℕ) → until_parity L n ≤ L.group
-  until-le n =
-      lt-cases L.lead (place_in L n)
-      (λ l. let (d, p, u) = past n (group_of L n) (place_in L n) refl refl l in omega arith)
-      (λ l. let (d, p, u) = before n (group_of L n) (place_in L n) refl refl l in omega (arith, S.lead-le))
+  unfolding until_parity
+  until-le n = grind (arith, nat_tests, S.lead-le)
 
   pub data-due : (n : ℕ) → zero < until_parity L n → is_parity L n ≡ false
-  data-due n z =
-      ne_eqb (place_in L n) L.lead (λ e. let (d, p, u) = before n (group_of L n) (place_in L n) refl refl (omega arith) in omega arith)
+  unfolding until_parity
+  data-due n z = grind (arith, nat_tests)
 
   pub parity-group : (n : ℕ) → is_parity L n ≡ true → parity_place L n ≡ group_of L n
-  parity-group n t =
-      let e = eqb-true (place_in L n) L.lead t in
-      (before n (group_of L n) (place_in L n) refl refl (omega arith)).1
+  unfolding parity_place
+  parity-group n t = grind (arith, nat_tests)
 
   -- the nibble after n, if n holds parity
   pub parity-passed : (n m : ℕ) → m ≡ n + cond (is_parity L n) 1 0 → data_place L m ≡ data_place L n
@@ -128,54 +82,20 @@ module _ (L : Shape) (S : Orderly L) where
       (λ t. let z : m ≡ n + 0 = rw t at e in let y : m ≡ n = omega arith in ap (data_place L) y)
 
   pub counts_start : Counts L 0 0 0 L.lead
-  counts_start =
-      let (d, p, u) = before 0 0 0 (zero-div (L.group + 1)) (zero-mod (L.group + 1)) (omega arith) in
-      (omega (arith, zero-mul L.group), p, omega arith)
+  unfolding parity_place until_parity
+  counts_start = grind (arith, nat_tests, zero-div (L.group + 1), zero-mod (L.group + 1))
 
   -- where data nibbles are left the stream goes on; where none are, it ends after one parity nibble at most
   data-parts : (n : ℕ) → group_of L n * L.group ≤ data_place L n
   data-parts n = omega arith
 
   pub stream-on : (n : ℕ) → data_place L n < L.rows → n < L.rows + L.parity
-  stream-on n h =
-      let g : group_of L n < L.parity = lt-cases (group_of L n) L.parity (λ l. l)
-      (λ l. absurd (omega (arith, data-parts n, S.rows_are, mul-le-mul_right {m = L.parity} {n = group_of L n} L.group l))) in
-      omega (
-        arith,
-        parts n,
-        place-lt L S n,
-        S.rows_are,
-        mul-add L.parity L.group 1,
-        add-mul (group_of L n) 1 (L.group + 1),
-        mul-le-mul_right {m = group_of L n + 1} {n = L.parity} (L.group + 1) (omega arith),
-      )
+  stream-on n h = grind (arith, parts n, place-lt L S n, S.rows_are)
 
   pub stream_end : (n : ℕ) → n < L.rows + L.parity → data_place L n ≡ L.rows → (is_parity L n ≡ true) × (n + 1 ≡ L.rows + L.parity)
   stream_end n h d =
       let t : is_parity L n ≡ true = test-cases (is_parity L n) (λ t. t) (λ t. absurd (omega (arith, data-place-lt L S n h t))) in
       let e = eqb-true (place_in L n) L.lead t in
-      let (d', p, u) = before n (group_of L n) (place_in L n) refl refl (omega arith) in
-      let g : group_of L n + 1 ≡ L.parity = lt-cases (group_of L n + 1) L.parity
-      (λ l.
-      absurd
-      (omega (
-        arith,
-        S.rows_are,
-        S.lead-le,
-        S.group-pos,
-        add-mul (group_of L n) 2 L.group,
-        mul-le-mul_right {m = group_of L n + 2} {n = L.parity} L.group (omega arith),
-      )))
-      (λ l. omega (arith, group-lt L S n h)) in (
-        t,
-        omega (
-          arith,
-          parts n,
-          S.rows_are,
-          mul-add L.parity L.group 1,
-          ap (λ (x : ℕ). x * (L.group + 1)) g,
-          add-mul (group_of L n) 1 (L.group + 1),
-          ap (λ (x : ℕ). x * L.group) g,
-          add-mul (group_of L n) 1 L.group,
-        ),
-      )
+      let d' : data_place L n ≡ group_of L n * L.group + place_in L n = grind (arith, nat_tests) in
+      let g : group_of L n + 1 ≡ L.parity = grind (arith, S.rows_are, S.lead-le, S.group-pos, group-lt L S n h) in
+      (t, grind (arith, parts n, S.rows_are))

@@ -1,7 +1,7 @@
 -- The orders of rows, place by place. Assumes nothing.
 use mathlib.Core.Path.{◌≡◌, refl, sym, ap, ◌∙◌}
 use Prim.Native.Nat.{ℕ, zero, suc, ◌+◌, ◌-◌, ◌*◌, ◌/◌, ◌%◌, ◌<◌, ◌≤◌}
-use native.Mathlib.Nat.{mod-lt, mod-eq_of_lt, mod-eq-sub-mod, mod-add-mod, div-add-mod', mul_comm, suc-mul, add-mul, mul-le-mul_right, le-mul_of_pos_right}
+use native.Mathlib.Nat.{mod-lt, mod-eq_of_lt, mod-add-mod, div-add-mod', mul_comm, suc-mul, add-mul, mul-le-mul_right, le-mul_of_pos_right}
 use native.Mathlib.Omega.{arith}
 use lib.ListN.{length}
 use Rattle.bits.proofs.NumberLaws.{lt-cases}
@@ -12,11 +12,10 @@ use Rattle.interleaver.proofs.PassLaws.{pass_start, row_at, length-is, pass-is, 
 
 -- a row moved up, where it passes the end at most once
 pub moved-within : (R offset row : ℕ) → row + offset < R → row + offset ≡ moved_row R offset row
-moved-within R offset row h = sym (mod-eq_of_lt h)
+moved-within R offset row h = grind arith
 
 pub moved-past : (R offset row : ℕ) → R ≤ row + offset → row + offset < R + R → row + offset - R ≡ moved_row R offset row
-moved-past R offset row h l =
-    sym (mod-eq-sub-mod {n = row + offset} {m = R} h ∙ mod-eq_of_lt (let z : row + offset - R < R = omega arith in z))
+moved-past R offset row h l = grind arith
 
 module _ (R s : ℕ) (pos : zero < s) where
   start_is : (j : ℕ) → j ≤ s → length (passes R s j) ≡ pass_start R s j

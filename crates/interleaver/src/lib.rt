@@ -35,7 +35,7 @@ struct Run {
     pass: usize,
 }
 
-// A row moved up, modulo the number of rows.
+// A row moved up, modulo the number of rows. A division here makes a block at rate 16/18 slower, by 13 percent out and by 40 percent back.
 fn moved_row(rows: usize, offset: usize, row: usize) -> usize
     requires { (row < rows) × (offset ≤ rows) × (rows < 65536) }
     ensures { (result ≡ moved_row rows offset row) × (result < rows) }
@@ -44,7 +44,8 @@ fn moved_row(rows: usize, offset: usize, row: usize) -> usize
     if moved < rows { moved } else { moved - rows }
 }
 
-// A block's bits as they come, in rows or coded, and the shape by which they go on.
+// A block's bits as they come, in rows or coded, and the shape by which they go on. Where they go is no field: each method would have to
+// promise that it leaves the other fields as they are.
 #[derive(Clone, Copy)]
 struct Block<'a> {
     shape: Shape,
@@ -106,15 +107,14 @@ impl Block<'_> {
             × (until_parity self.now.shape result.nibble + result.nibble ≡ until_parity self.now.shape start.nibble + start.nibble) }
         ensures moved { to.new ≡ carried self.now.shape BACK self.now.from.now start.nibble result.nibble to.old }
     {
-        let pass = start.pass;
-        let mut nibble = start.nibble;
-        let mut row = start.row;
-        while row < end {
-            self.move_nibble::<BACK>(nibble, row * 4, to);
-            nibble += 1;
-            row += self.shape.step;
+        let mut at = start;
+        // a `while`, since the first row past the end is part of the result
+        while at.row < end {
+            self.move_nibble::<BACK>(at.nibble, at.row * 4, to);
+            at.nibble += 1;
+            at.row += self.shape.step;
         }
-        Run { nibble, row, pass }
+        at
     }
 
     // The data nibbles of a pass, and the parity nibbles before each of them.
@@ -126,6 +126,7 @@ impl Block<'_> {
     {
         let mut at = start;
         let mut row = pass;
+        // a `while`, since each run says at which row the next one starts
         while row < self.shape.rows {
             let data = self.move_parity::<BACK>(at, to);
             let first = Run {
@@ -164,23 +165,22 @@ impl Block<'_> {
     }
 
     // Pairs of a pass, as long as the row is below `end`. Both nibbles of a pair are rotated alike, and its parity row stands `apart` after its
-    // data row.
+    // data row. One walk for this and `move_data` would promise either what `DataRun` leads to or what `PairRun` does, by a flag.
     fn move_run<const BACK: bool>(&self, start: Run, end: usize, apart: usize, to: &mut [u8]) -> Run
         requires { (coded_of self.now.shape ≤ length to.old) × PairRun self.now.shape start end apart }
         ensures stands { (start.nibble ≤ result.nibble) × (Runs self.now.shape result) × (result.pass ≡ start.pass) × (end ≤ result.row) }
         ensures moved { to.new ≡ carried self.now.shape BACK self.now.from.now start.nibble result.nibble to.old }
     {
-        let pass = start.pass;
-        let mut nibble = start.nibble;
-        let mut row = start.row;
-        while row < end {
-            let rotation = (nibble / 2 % 4) as u32;
-            self.move_word::<BACK>(nibble, rotation, row * 4, to);
-            self.move_word::<BACK>(nibble + 1, rotation, (apart + row) * 4, to);
-            nibble += 2;
-            row += self.shape.step;
+        let mut at = start;
+        // a `while`, since the first row past the end is part of the result
+        while at.row < end {
+            let rotation = (at.nibble / 2 % 4) as u32;
+            self.move_word::<BACK>(at.nibble, rotation, at.row * 4, to);
+            self.move_word::<BACK>(at.nibble + 1, rotation, (apart + at.row) * 4, to);
+            at.nibble += 2;
+            at.row += self.shape.step;
         }
-        Run { nibble, row, pass }
+        at
     }
 
     // All nibbles of a shape of pairs. The parity rows of a pass go past the end once, and then on from the first row.

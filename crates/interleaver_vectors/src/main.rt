@@ -2,77 +2,72 @@
 #![tactic(auto)]
 
 ghost use Rattle.std.specs.Prelude.{◌≡◌, ◌+◌, ◌*◌, ◌<◌, ◌≤◌, length};
-ghost use Rattle.card.specs.Modes.{Defined};
 ghost use Rattle.interleaver_shape.specs.Shapes.{coded_bits};
 
+use coding::Coding;
 use std::io;
 
 // Room for the coded bits of any block.
-fn room() -> [u8; 8320]
-    ensures { 8320 ≡ length result }
-{
-    [0u8; 8320]
-}
-
-// The number of two bytes.
-fn joined(high: u8, low: u8) -> u64 {
-    (high as u64) * 256 + (low as u64)
-}
+const ROOM: usize = 8320;
 
 // One byte of the source bit's number at each place of so many rows, from `first` on, whose columns were filled one after the other: the lower
 // byte where unit is 1, the upper one where it is 256.
 fn number(s: &mut [u8], first: usize, height: usize, unit: usize)
     requires { (0 < unit) × (first + height * 4 ≤ length s.old) }
 {
-    for j in 0..height * 4 {
-        s[first + j] = ((first + j % 4 * height + j / 4) / unit % 256) as u8;
+    for (j, byte) in s[first..first + height * 4].iter_mut().enumerate() {
+        *byte = ((first + j % 4 * height + j / 4) / unit % 256) as u8;
     }
 }
 
 // Those bytes of all rows in coded order.
-fn shuffle(kind: usize, rate: usize, unit: usize, out: &mut [u8])
-    requires { (Defined kind rate) × (0 < unit) × (coded_bits kind rate ≤ length out.old) }
+fn shuffle(coding: Coding, unit: usize, out: &mut [u8])
+    requires { (0 < unit) × (coded_bits coding.kind coding.rate ≤ length out.old) }
 {
-    let n = interleaver_shape::coded_bits(kind, rate);
-    let data = interleaver_shape::data_rows(kind);
-    let parity = interleaver_shape::parity_rows(kind, rate);
-    let mut rows = room();
+    let n = interleaver_shape::coded_bits(coding);
+    let data = interleaver_shape::data_rows(coding.kind);
+    let parity = interleaver_shape::parity_rows(coding);
+    let mut rows = [0u8; ROOM];
     number(&mut rows, 0, data, unit);
     number(&mut rows, data * 4, parity, unit);
-    interleaver::interleave(kind, rate, &rows[..n], out);
+    interleaver::interleave(coding, &rows[..n], out);
 }
 
-// A line of n numbers.
-fn print_numbers(rt: &impl Print, n: usize, high: &[u8], low: &[u8]) -> io::Result<()>
-    requires { (n ≤ length high.now) × (n ≤ length low.now) }
-{
-    for i in 0..n {
+// A line of the first n numbers, each of two bytes.
+fn print_numbers(rt: &impl Print, n: usize, high: &[u8], low: &[u8]) -> io::Result<()> {
+    for (i, (high, low)) in high.iter().zip(low).take(n).enumerate() {
         if 0 < i {
-            output::put(rt, b" ")?;
+            print!(rt; " ")?;
         }
-        output::put_number(rt, joined(high[i], low[i]))?;
+        rt.print(u16::from_be_bytes([*high, *low]))?;
     }
-    output::put(rt, b"\n")
+    println!(rt)
 }
 
 // The two lines of a kind and rate.
-fn print_layout(rt: &impl Print, kind: usize, rate: usize) -> io::Result<()>
-    requires { Defined kind rate }
-{
-    output::put_named(rt, b"kind ", kind as u64)?;
-    output::put_named(rt, b" rate ", rate as u64)?;
-    output::put(rt, b"\n")?;
-    let n = interleaver_shape::coded_bits(kind, rate);
-    let mut high = room();
-    let mut low = room();
-    shuffle(kind, rate, 256, &mut high);
-    shuffle(kind, rate, 1, &mut low);
+fn print_layout(rt: &impl Print, coding: Coding) -> io::Result<()> {
+    println!(rt; "kind {} rate {}", coding.kind, coding.rate)?;
+    let n = interleaver_shape::coded_bits(coding);
+    let mut high = [0u8; ROOM];
+    let mut low = [0u8; ROOM];
+    shuffle(coding, 256, &mut high);
+    shuffle(coding, 1, &mut low);
     print_numbers(rt, n, &high, &low)
 }
 
 fn main(rt: HostRuntime) -> io::Result<()> {
     for kind in 0..5 {
-        print_layout(&rt, kind, 0)?;
+        let coding = Coding {
+            kind,
+            rate: 0,
+            taps: 0,
+        };
+        print_layout(&rt, coding)?;
     }
-    print_layout(&rt, 4, 1)
+    let coding = Coding {
+        kind: 4,
+        rate: 1,
+        taps: 0,
+    };
+    print_layout(&rt, coding)
 }

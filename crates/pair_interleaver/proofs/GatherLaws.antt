@@ -1,16 +1,15 @@
 -- The pair interleaver, read off a list that has the block's pairs twice. Assumes nothing.
 use mathlib.Core.Path.{◌≡◌, refl, sym, ap, ap₂, ◌∙◌}
-use mathlib.Core.List.{List, ◌++◌}
+use mathlib.Core.List.{List}
 use Prim.Native.Nat.{ℕ, zero, suc, ◌+◌, ◌-◌, ◌*◌, ◌/◌, ◌%◌, ◌≤◌, ◌<◌}
-use native.Mathlib.Nat.{one-mul, add-mul, mul_assoc, mul_left_comm, mul-le-mul_right, mod-lt, mod-eq_of_lt, div-add-mod'}
+use native.Mathlib.Nat.{add-mul, mul_assoc, mul_left_comm, mul-le-mul_right, mod-lt, mod-eq_of_lt, div-add-mod'}
 use native.Mathlib.Omega.{arith}
 use lib.Arith.{digits_div, digits_mod}
-use lib.ListN.{length, get_or, take, drop, length-take, length-drop}
+use lib.ListN.{length, get_or, take, drop}
 use lib.Seq.{get_or-drop, get_or-take}
 use borrow.Author.Tests.{eq-eqb, ne_eqb}
+use Rattle.std.proofs.lemmas.List.{places}
 use Rattle.bits.specs.Bits.{bit_of}
-use Rattle.bits.specs.Lists.{tabulate, written}
-use Rattle.bits.proofs.ListLaws.{length-tabulate, get_or-tabulate, get_or-written, written-part, written_all, written-ext, take-written, written_over}
 use Rattle.bits.proofs.NumberLaws.{lt-cases, row_within}
 use Rattle.card.specs.Modes.{block_bytes}
 use Rattle.pair_interleaver.specs.Interleave.{starts, interleaved, source_pair_by, Interleaver, exchanged, exchanged_at, interleaved_by}
@@ -32,16 +31,13 @@ unfolding digit_of
 digit-odd base src i = let a : (2 * i + 1) / 2 ≡ i = omega arith in rw (a, ne_eqb ((2 * i + 1) % 2) 0 (λ e. omega arith))
 
 -- the digits to the base four of the digits to the base sixteen are the pairs
-digits-pairs : (bytes halves : List ℕ) → halves ≡ tabulate (2 * length bytes) (digit_of 16 bytes) → (t : ℕ) → t < 4 * length bytes
-    → digit_of 4 halves t ≡ pair_at (bit_of bytes) t
-digits-pairs bytes halves e t h =
+pub digits-pairs : (bytes halves : List ℕ) → ((k : ℕ) → k < 2 * length bytes → get_or halves k 0 ≡ digit_of 16 bytes k)
+    → (t : ℕ) → t < 4 * length bytes → digit_of 4 halves t ≡ pair_at (bit_of bytes) t
+digits-pairs bytes halves at t h =
     ap (digit_of 4 halves) q ∙ go (t / 4) (t % 4) (omega arith) (omega arith) ∙ pair-in-byte bytes (t / 4) (t % 4) (omega arith) ∙ ap (pair_at (bit_of bytes)) (sym q)
   where
     q : t ≡ 4 * (t / 4) + t % 4
     q = omega arith
-
-    at : (k : ℕ) → k < 2 * length bytes → get_or halves k 0 ≡ digit_of 16 bytes k
-    at k l = ap (λ (m : List ℕ). get_or m k 0) e ∙ get_or-tabulate (2 * length bytes) (digit_of 16 bytes) k 0 l
 
     high : (i : ℕ) → i < length bytes → get_or halves (2 * i) 0 ≡ get_or bytes i 0 / 16 % 16
     high i l = at (2 * i) (omega arith) ∙ sym (digit-even 16 bytes i)
@@ -56,36 +52,19 @@ digits-pairs bytes halves e t h =
     go i (suc (suc (suc zero))) l b = ap (digit_of 4 halves) (omega arith) ∙ sym (digit-odd 4 halves (2 * i + 1)) ∙ omega (arith, low i l)
     go i (suc (suc (suc (suc j)))) l b = absurd (omega arith)
 
--- the digits at the start of a list that holds more
-module _ (bytes was halves : List ℕ) (e : halves ≡ written (2 * length bytes) (digit_of 16 bytes) was) where
-  its-halves : take (2 * length bytes) halves ≡ tabulate (2 * length bytes) (digit_of 16 bytes)
-  its-halves = ap (take (2 * length bytes)) e ∙ take-written (2 * length bytes) (digit_of 16 bytes) was
-
-  pub halves_long : 2 * length bytes ≡ length (take (2 * length bytes) halves)
-  halves_long = sym (ap length its-halves ∙ length-tabulate (2 * length bytes) (digit_of 16 bytes))
-
-  pub pairs-written : (out last : List ℕ) → last ≡ written (2 * length (take (2 * length bytes) halves)) (digit_of 4 (take (2 * length bytes) halves)) out
-      → last ≡ written (4 * length bytes) (pair_at (bit_of bytes)) out
-  pairs-written out last f =
-      let b : 2 * length (take (2 * length bytes) halves) ≡ 4 * length bytes = omega (arith, halves_long) in
-      f
-      ∙ ap (λ (i : ℕ). written i (digit_of 4 (take (2 * length bytes) halves)) out) b
-      ∙ written-ext (4 * length bytes) (digit_of 4 (take (2 * length bytes) halves)) (pair_at (bit_of bytes)) out (digits-pairs bytes (take (2 * length bytes) halves) its-halves)
-
-pub listed-twice : (l m : ℕ) (p : ℕ → ℕ) (out now part : List ℕ) → m ≡ l + l → now ≡ written l p out → part ≡ written l p (take (length now - l) (drop l now))
-    → take l now ++ (part ++ drop (length now - l) (drop l now)) ≡ written m (twice l p) out
+-- the first l elements, and the same again
+pub twice-first : (l : ℕ) (p : ℕ → ℕ) (t : ℕ) → t < l → p t ≡ twice l p t
 unfolding twice
-listed-twice l m p out now part q e f =
-    written_all _ _ _ _ _
-    (written-part l l (λ t. p (t % l)) p out now part (e ∙ written-ext l p (λ t. p (t % l)) out (λ t h. ap p (sym (mod-eq_of_lt h)))) (λ j h. ap p (sym (again j h))) f) (sym q)
-  where
-    again : (j : ℕ) → j < l → (l + j) % l ≡ j
-    again j h = ap (λ (k : ℕ). (k + j) % l) (sym (one-mul l)) ∙ digits_mod 1 h
+twice-first l p t h = ap p (sym (mod-eq_of_lt h))
+
+pub twice-again : (l : ℕ) (p : ℕ → ℕ) (t : ℕ) → l ≤ t → t < 2 * l → p (t - l) ≡ twice l p t
+unfolding twice
+twice-again l p t h b =
+    let e : 1 * l + (t - l) ≡ t = omega arith in
+    let small : t - l < l = omega arith in
+    ap p (sym (ap (λ (k : ℕ). k % l) (sym e) ∙ digits_mod 1 small))
 
 -- ---- the places of four rows
-
-pub row-sum : (r n : ℕ) → r < 4 → (r * n + n ≤ 4 * n) × ((3 - r) * n ≤ 3 * n)
-row-sum r n h = (row_within r n 4 h, mul-le-mul_right {m = 3 - r} {n = 3} n (omega arith))
 
 pub row-place : (s : List ℕ) (r k : ℕ) → k < length s → get_or s k 0 + (3 - r) * length s ≡ place_in s (r * length s + k)
 unfolding place_in
@@ -98,22 +77,15 @@ pub next_row : (w n r at : ℕ) → at ≡ r * w → at < n → n / w * w ≡ n 
 next_row w n r at e h q =
     lt-cases r (n / w) (λ l. omega (arith, row_within r w (n / w) l)) (λ l. absurd (omega (arith, mul-le-mul_right {m = n / w} {n = r} w l)))
 
--- what a turn asks, from what the whole asks
-module _ (places list : List ℕ) (n : ℕ) (was : List ℕ) (I : Interleaving places list n was) (base : ℕ) (low : base + 3 * (length places / 4) ≤ 4 * n) where
-  pub base-le : base ≤ length list
-  base-le = omega (arith, I.there 0 (omega (arith, I.some)), I.some)
+-- what is picked is a pair
+pub picked-pair : (places list out : List ℕ) → Gathering places list out → (t r : ℕ) → t < length places → r ≡ picked places list t → r < 4
+unfolding picked
+picked-pair places list out G t r h e = rw e (G.pairs (get_or places t 0) (G.there t h))
 
-  pub place-lt : (t : ℕ) → t < length places → get_or places t 0 < length list - base
-  place-lt t h = omega (arith, I.there t h)
-
-  pub gathering : (out : List ℕ) (at : ℕ) → at + length places / 4 ≤ length out
-      → Gathering places (take (length list - base) (drop base list)) (take (length out - at) (drop at out))
-  gathering out at h =
-      record {
-        there = λ t l. simp (length-take, length-drop) (omega (arith, place-lt t l));
-        pairs = λ t l. let k : t < length list - base = omega (arith, simp (length-take, length-drop) at l) in rw (get_or-take, get_or-drop) (I.pairs (base + t) (omega arith));
-        room = simp (length-take, length-drop) (omega arith);
-      }
+-- a place is in what is left of the list
+pub place-lt : (places list was : List ℕ) → Interleaving places list was → (base : ℕ) → base + 3 * (length places / 4) ≤ 4 * length was
+    → (t : ℕ) → t < length places → get_or places t 0 < length list - base
+place-lt places list was I base low t h = omega (arith, I.there t h)
 
 module _ (places list : List ℕ) (n r at : ℕ) (e : at ≡ r * (length places / 4)) where
   -- the width of four rows in bytes, and where they are read from
@@ -200,19 +172,14 @@ module _ (l n : ℕ) (s : List ℕ) (I : Interleaver l s) (q : l ≡ 4 * n) (row
       ∙ ap₂ (λ (i j : ℕ). get_or s i 0 + l - j * w) (sym (ap (λ (k : ℕ). k % w) z ∙ digits_mod (4 * a + b) hc))
       (sym (ap (λ (k : ℕ). k / w) z ∙ digits_div (4 * a + b) hc))
 
-  module _ (p : ℕ → ℕ) (places list : List ℕ) (ep : places ≡ tabulate (4 * length s) (place_in s)) (el : list ≡ tabulate (8 * n) (twice l p)) where
+  module _ (p : ℕ → ℕ) (places list : List ℕ) (many : length places ≡ 4 * length s) (long : length list ≡ 8 * n)
+      (place_at : (t : ℕ) → t < 4 * length s → get_or places t 0 ≡ place_in s t) (listed : (t : ℕ) → t < 8 * n → get_or list t 0 ≡ twice l p t) where
     width_is : length places / 4 ≡ length s
-    width_is = let e : length places ≡ 4 * length s = ap length ep ∙ length-tabulate (4 * length s) (place_in s) in omega arith
-
-    long : length list ≡ 8 * n
-    long = ap length el ∙ length-tabulate (8 * n) (twice l p)
-
-    place_at : (t : ℕ) → t < 4 * length s → get_or places t 0 ≡ place_in s t
-    place_at t h = ap (λ (k : List ℕ). get_or k t 0) ep ∙ get_or-tabulate (4 * length s) (place_in s) t 0 h
+    width_is = omega arith
 
     list_at : (t : ℕ) → t < 8 * n → get_or list t 0 ≡ p (t % l)
     unfolding twice
-    list_at t h = ap (λ (k : List ℕ). get_or k t 0) el ∙ get_or-tabulate (8 * n) (twice l p) t 0 h
+    list_at t h = listed t h
 
     rows-place : (x : ℕ) → x < l → by_rows places list n x ≡ p (source_pair_by l s x)
     unfolding by_rows source_pair_by
@@ -222,15 +189,15 @@ module _ (l n : ℕ) (s : List ℕ) (I : Interleaver l s) (q : l ≡ 4 * n) (row
         ap (λ (m : ℕ). 4 * (n - x / (4 * length s) * length s) - 3 * length s + m) k ∙ place_twice x h in
         rw width_is (rw v (list_at _ (omega (arith, I.below (x % length s) (mod-lt x I.some)))))
 
-    pub interleaving : (out : List ℕ) → ((t : ℕ) → p t < 4) → n ≤ 520 → n ≤ length out → Interleaving places list n out
+    pub interleaving : (out : List ℕ) → ((t : ℕ) → p t < 4) → n ≤ 520 → length out ≡ n → Interleaving places list out
     unfolding place_in
-    interleaving out hp small room =
+    interleaving out hp few room =
         record {
           some = rw width_is I.some;
-          rows = rw width_is rows;
-          small = small;
+          rows = rw (width_is, room) rows;
+          small = omega arith;
           there = λ t h.
-              let b : t < 4 * length s = omega (arith, ap length ep, length-tabulate (4 * length s) (place_in s)) in
+              let b : t < 4 * length s = omega arith in
               omega (
                 arith,
                 place_at t b,
@@ -239,58 +206,38 @@ module _ (l n : ℕ) (s : List ℕ) (I : Interleaver l s) (q : l ≡ 4 * n) (row
                 I.below (t % length s) (mod-lt t I.some),
                 mul-le-mul_right {m = 3 - t / length s} {n = 3} (length s) (omega arith),
               );
-          pairs = λ t h. rw (list_at t (omega (arith, long))) (hp (t % l));
-          room = room;
+          pairs = λ t h. rw (list_at t (omega arith)) (hp (t % l));
         }
 
     -- the bytes exchanged are those of the interleaved pairs
-    pub second-four : ((t : ℕ) → p t < 4) → (out mid last : List ℕ) → n ≤ length out → mid ≡ written n (four_from (by_rows places list n)) out
-        → last ≡ written n (λ i. exchanged_byte (get_or mid i 0)) mid → last ≡ written n (four_from (interleaved_by l s p)) out
+    pub second-four : ((t : ℕ) → p t < 4) → (i : ℕ) → i < n → exchanged_byte (four_from (by_rows places list n) i) ≡ four_from (interleaved_by l s p) i
     unfolding interleaved_by
-    second-four hp out mid last h em e =
-        e
-        ∙ ap (written n (λ i. exchanged_byte (get_or mid i 0))) em
-        ∙ written_over n n (λ i. exchanged_byte (get_or mid i 0)) (four_from (by_rows places list n)) out (omega arith)
-        ∙ written-ext n (λ i. exchanged_byte (get_or mid i 0)) (four_from (interleaved_by l s p)) out (λ i b. ap exchanged_byte (byte i b) ∙ exchanged-four (λ x. p (source_pair_by l s x)) (λ t. hp (source_pair_by l s t)) i)
+    second-four hp i b = ap exchanged_byte byte ∙ exchanged-four (λ x. p (source_pair_by l s x)) (λ t. hp (source_pair_by l s t)) i
       where
-        byte : (i : ℕ) → i < n → get_or mid i 0 ≡ four_from (λ x. p (source_pair_by l s x)) i
-        byte i b =
-            ap (λ (k : List ℕ). get_or k i 0) em
-            ∙ get_or-written n (four_from (by_rows places list n)) out i 0 b
-            ∙ rw
+        byte : four_from (by_rows places list n) i ≡ four_from (λ x. p (source_pair_by l s x)) i
+        byte =
+            rw
             (rows-place (4 * i) (omega arith), rows-place (4 * i + 1) (omega arith), rows-place (4 * i + 2) (omega arith), rows-place (4 * i + 3) (omega arith))
 
--- by the kind of a block: what is asked of its places and of its list, and what is written
-module _ (kind : ℕ) (h : kind < 5) (bytes : List ℕ) (hb : length bytes ≡ block_bytes kind) (columns : ℕ) (ec : columns ≡ length (starts kind))
-    (was places old list : List ℕ) (ep : places ≡ written (4 * length (starts kind)) (place_in (starts kind)) was)
-    (el : list ≡ written (8 * length bytes) (twice (4 * length bytes) (pair_at (bit_of bytes))) old) where
+-- by the kind of a block: what is asked of its places and of its list, and what is stored
+module _ (kind : ℕ) (h : kind < 5) (bytes : List ℕ) (hb : length bytes ≡ block_bytes kind) (places list : List ℕ)
+    (many : length places ≡ 4 * length (starts kind)) (long : length list ≡ 8 * length bytes)
+    (place_at : (t : ℕ) → t < 4 * length (starts kind) → get_or places t 0 ≡ place_in (starts kind) t)
+    (listed : (t : ℕ) → t < 8 * length bytes → get_or list t 0 ≡ twice (4 * length bytes) (pair_at (bit_of bytes)) t) where
   its-table : Interleaver (4 * length bytes) (starts kind)
   its-table = rw hb (table kind h)
 
   its-rows : length bytes / length (starts kind) * length (starts kind) ≡ length bytes
   its-rows = rw hb (whole-rows kind h)
 
-  its-places : take (4 * columns) places ≡ tabulate (4 * length (starts kind)) (place_in (starts kind))
-  its-places = ap₂ (λ (k : ℕ) (l : List ℕ). take (4 * k) l) ec ep ∙ take-written (4 * length (starts kind)) (place_in (starts kind)) was
+  pub second-asked : (out : List ℕ) → length out ≡ length bytes → Interleaving places list out
+  second-asked out room =
+      interleaving (4 * length bytes) (length bytes) (starts kind) its-table refl its-rows (pair_at (bit_of bytes)) places list many long place_at listed out (pair_lt bytes)
+      (omega (arith, few-pairs kind h)) room
 
-  its-list : take (8 * length bytes) list ≡ tabulate (8 * length bytes) (twice (4 * length bytes) (pair_at (bit_of bytes)))
-  its-list = ap (take (8 * length bytes)) el ∙ take-written (8 * length bytes) (twice (4 * length bytes) (pair_at (bit_of bytes))) old
-
-  pub places-long : 4 * columns ≡ length (take (4 * columns) places)
-  places-long = sym (ap length its-places ∙ length-tabulate (4 * length (starts kind)) (place_in (starts kind)) ∙ ap (◌*◌ 4) (sym ec))
-
-  pub list-long : 8 * length bytes ≡ length (take (8 * length bytes) list)
-  list-long = sym (ap length its-list ∙ length-tabulate (8 * length bytes) (twice (4 * length bytes) (pair_at (bit_of bytes))))
-
-  pub second-asked : (out : List ℕ) → block_bytes kind ≤ length out → Interleaving (take (4 * columns) places) (take (8 * length bytes) list) (length bytes) out
-  second-asked out b =
-      interleaving (4 * length bytes) (length bytes) (starts kind) its-table refl its-rows (pair_at (bit_of bytes)) _ _ its-places its-list out (pair_lt bytes)
-      (omega (arith, few-pairs kind h)) (omega arith)
-
-  pub second-done : (out mid last : List ℕ) → block_bytes kind ≤ length out
-      → mid ≡ written (length bytes) (four_from (by_rows (take (4 * columns) places) (take (8 * length bytes) list) (length bytes))) out
-      → last ≡ written (length bytes) (λ i. exchanged_byte (get_or mid i 0)) mid → last ≡ written (block_bytes kind) (four_from (interleaved kind (pair_at (bit_of bytes)))) out
+  pub second-done : (i : ℕ) → i < length bytes
+      → exchanged_byte (four_from (by_rows places list (length bytes)) i) ≡ four_from (interleaved kind (pair_at (bit_of bytes))) i
   unfolding interleaved
-  second-done out mid last b em e =
-      second-four (4 * length bytes) (length bytes) (starts kind) its-table refl its-rows (pair_at (bit_of bytes)) _ _ its-places its-list (pair_lt bytes) out mid last (omega arith) em e
-      ∙ ap (λ (n : ℕ). written n (four_from (interleaved_by (4 * n) (starts kind) (pair_at (bit_of bytes)))) out) hb
+  second-done i b =
+      second-four (4 * length bytes) (length bytes) (starts kind) its-table refl its-rows (pair_at (bit_of bytes)) places list many long place_at listed (pair_lt bytes) i b
+      ∙ ap (λ (n : ℕ). four_from (interleaved_by (4 * n) (starts kind) (pair_at (bit_of bytes))) i) hb

@@ -1,20 +1,19 @@
 -- The pair interleaver takes every place once, shown once over size and table. Assumes nothing.
 use mathlib.Core.Path.{◌≡◌, sym, ap, ◌∙◌, subst}
 use mathlib.Core.Bool.{Bool, true, false, not, ◌||◌}
-use mathlib.Core.List.{List, [], ◌∷◌, ◌++◌}
+use mathlib.Core.List.{List, [], ◌∷◌}
 use Prim.Native.Nat.{ℕ, ◌+◌, ◌-◌, ◌*◌, ◌/◌, ◌%◌, ◌<◌, ◌≤◌, ◌∣◌}
 use native.Mathlib.Nat.{mod-lt, mod-mod_of_dvd, dvd-mul_left, add-mul-mod_self_right, div-add-mod', div-mul-le_self}
 use native.Mathlib.Omega.{arith}
 use lib.Dec.{T, eqb, eqb→eq, eqb_refl, ltb, ltb→lt, leb, leb→le}
-use lib.ListN.{length, get_or, take, drop}
-use lib.Seq.{ext_get_or}
+use lib.ListN.{length, get_or}
 use Rattle.bits.specs.Ranges.{all_below}
 use Rattle.bits.specs.Permutations.{Permutes}
 use Rattle.bits.proofs.NumberLaws.{lt-cases, mod-near}
 use Rattle.bits.proofs.RangeLaws.{at-each₂, at_each, agree, under}
 use Rattle.card.specs.Modes.{block_bytes}
 use Rattle.constituent.specs.Pairs.{pair_count}
-use Rattle.pair_interleaver.specs.Interleave.{starts16, starts72, starts136, starts264, starts520, starts, source_pair_by, Interleaver, source_pair}
+use Rattle.pair_interleaver.specs.Interleave.{starts, source_pair_by, Interleaver, source_pair}
 
 module _ (l : ℕ) (s : List ℕ) (I : Interleaver l s) where
   -- the entry of the column of x, and what is reduced mod l
@@ -105,28 +104,6 @@ residues-differ kind h = (table kind h).differ
 pub source-pair-permutes : (kind : ℕ) → kind < 5 → Permutes (pair_count kind) (source_pair kind)
 unfolding source_pair
 source-pair-permutes kind h = permutes (pair_count kind) (starts kind) (table kind h)
-
--- the tables one after the other, as the code has them, where each ends, and the one of a kind
-abbrev pub flat : List ℕ
-flat = starts16 ++ (starts72 ++ (starts136 ++ (starts264 ++ starts520)))
-
-abbrev pub end_of : ℕ → ℕ
-end_of i = get_or (0 ∷ 8 ∷ 26 ∷ 60 ∷ 93 ∷ 133 ∷ []) i 0
-
-abbrev pub cut : ℕ → List ℕ
-cut kind = take (end_of (kind + 1) - end_of kind) (drop (end_of kind) flat)
-
-pub end-le : (kind : ℕ) → kind < 5 → end_of kind ≤ end_of (kind + 1)
-end-le kind h = leb→le (end_of kind) (end_of (kind + 1)) (at_each 5 (λ k. leb (end_of k) (end_of (k + 1))) tt kind h)
-
-pub end-small : (i : ℕ) → i < 6 → end_of i < 134
-end-small = under 6 134 end_of tt
-
-pub cut-starts : (kind : ℕ) → kind < 5 → cut kind ≡ starts kind
-cut-starts kind h =
-    ext_get_or 0 (cut kind) (starts kind) (agree 5 (λ k. length (cut k)) (λ k. length (starts k)) tt kind h)
-    (agree (length (cut kind)) (λ i. get_or (cut kind) i 0) (λ i. get_or (starts kind) i 0)
-    (at_each 5 (λ k. all_below (length (cut k)) (λ i. eqb (get_or (cut k) i 0) (get_or (starts k) i 0))) tt kind h))
 
 pub few-columns : (kind : ℕ) → kind < 5 → length (starts kind) ≤ 40
 few-columns kind h = leb→le (length (starts kind)) 40 (at_each 5 (λ k. leb (length (starts k)) 40) tt kind h)

@@ -19,8 +19,8 @@ use Rattle.payload_layout.specs.declared.Layout.{Layout}
 use Rattle.payload_layout.specs.Layouts.{group_carriers, group_bits}
 use Rattle.payload_layout.specs.Items.{group_order}
 use Rattle.payload_layout.proofs.OrderLaws.{group-permutes}
-use Rattle.payload_copying.specs.Loops.Slots.{Slotted, Addresses, Copied}
-use Rattle.payload_copying.proofs.SlotLaws.{order_of, slot_at, order-long, order-at}
+use Rattle.payload_copying.specs.Loops.Slots.{Slotted, Order, Copied}
+use Rattle.payload_copying.proofs.SlotLaws.{slot_at}
 use Rattle.payload_combining.specs.Loops.Groups.{slot_on, group_on}
 
 -- ---- carriers put back in order
@@ -28,21 +28,21 @@ use Rattle.payload_combining.specs.Loops.Groups.{slot_on, group_on}
 abbrev pub Spread : ℕ → ℕ → List ℕ → List ℕ → List ℕ → Type 0
 Spread bits n order items group = (p e : ℕ) → p < n → e < bits → get_or group (get_or order p 0 * bits + e) 0 ≡ get_or items (p * bits + e) 0
 
-pub spread-next : (bits p from to n : ℕ) (order items group after : List ℕ) → Permutes n (λ p. get_or order p 0) → p < n
-    → from ≡ p * bits → to ≡ get_or order p 0 * bits → Copied bits items from to group after
+pub spread-next : (bits p address n : ℕ) (order items group after : List ℕ) → Permutes n (λ p. get_or order p 0) → p < n
+    → address ≡ get_or order p 0 → Copied bits items (p * bits) (address * bits) group after
     → Spread bits p order items group → Spread bits (p + 1) order items after
-spread-next bits p from to n order items group after P h f t c w q e l b =
+spread-next bits p address n order items group after P h a c w q e l b =
     lt-cases q p
     (λ k.
-    lt-cases (get_or order q 0) (get_or order p 0)
-    (λ m. c.under _ (omega (arith, row_within (get_or order q 0) bits (get_or order p 0) m)) ∙ w q e k b)
+    lt-cases (get_or order q 0) address
+    (λ m. c.under _ (omega (arith, row_within (get_or order q 0) bits address m)) ∙ w q e k b)
     (λ m.
-    lt-cases (get_or order p 0) (get_or order q 0)
-    (λ o. c.over _ (omega (arith, row_within (get_or order p 0) bits (get_or order q 0) o)) ∙ w q e k b)
-    (λ o. absurd (let z : q ≡ p = P.apart q p (omega arith) h (omega arith) in omega arith))))
+    lt-cases address (get_or order q 0)
+    (λ o. c.over _ (omega (arith, row_within address bits (get_or order q 0) o)) ∙ w q e k b)
+    (λ o. absurd (let z : q ≡ p = P.apart q p (omega arith) h (omega (arith, a)) in omega arith))))
     (λ k.
     let same : q ≡ p = omega arith in
-    rw same (ap (λ (x : ℕ). get_or after (x + e) 0) (sym t) ∙ c.put e b ∙ ap (λ (x : ℕ). get_or items (x + e) 0) f))
+    rw same (ap (λ (x : ℕ). get_or after (x * bits + e) 0) (sym a) ∙ c.put e b))
 
 -- ---- the votes of a slot
 
@@ -72,20 +72,17 @@ module _ (L : Layout) (z : Slotted L) (k g : ℕ) where
       ∙ tabulate-ext L.coded _ _
       (λ b l. ap₂ (λ (ones zeros : ℕ). (get_or counters b 0 + ones + 255 * zeros) % 256) (slot-votes items group w b 1) (slot-votes items group w b 0))
 
-  module _ (hk : k < L.copies) (table : List ℕ) (t : Addresses L table) (first end : ℕ) (f : first ≡ k * group_carriers L) (e : end ≡ first + group_carriers L) where
+  module _ (order : List ℕ) (o : Order L k order) where
     -- the slot's carriers are back in order
-    pub slot-spread : (items group : List ℕ)
-        → Spread L.bits (length (order_of first end table)) (order_of first end table) items group
+    pub slot-spread : (items group : List ℕ) → Spread L.bits (length order) order items group
         → (i : ℕ) → i < group_bits L → get_or group (slot_order L k i) 0 ≡ get_or items i 0
     slot-spread items group w i h =
         let b : 0 < L.bits = z.laid.sound.bits_pos in
         let p : i / L.bits < group_carriers L = (div-lt_iff_lt-mul {k = L.bits} b).1 h in
-        ap (λ (o : ℕ). get_or group (o * L.bits + i % L.bits) 0) (sym (order-at L z k hk table t first end f e (i / L.bits) p))
-        ∙ w (i / L.bits) (i % L.bits) (omega (arith, order-long L z k hk table t first end f e)) (mod-lt i b)
+        ap (λ (a : ℕ). get_or group (a * L.bits + i % L.bits) 0) (sym (o.at (i / L.bits) p))
+        ∙ w (i / L.bits) (i % L.bits) (omega (arith, o.long)) (mod-lt i b)
         ∙ ap (λ (x : ℕ). get_or items x 0) (div-add-mod' i L.bits)
 
-    -- an order in the table is a permutation
-    pub order-permutes : Permutes (length (order_of first end table)) (λ p. get_or (order_of first end table) p 0)
-    order-permutes =
-        rw (order-long L z k hk table t first end f e)
-        (permutes-ext (group_order L k) (λ p. get_or (order_of first end table) p 0) (order-at L z k hk table t first end f e) (group-permutes L z.laid.sound k))
+    -- an order is a permutation
+    pub order-permutes : Permutes (length order) (λ p. get_or order p 0)
+    order-permutes = rw o.long (permutes-ext (group_order L k) (λ p. get_or order p 0) o.at (group-permutes L z.laid.sound k))

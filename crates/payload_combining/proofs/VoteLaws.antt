@@ -1,30 +1,31 @@
 -- Laws of the votes by groups, slots and symbols, and what the counters decide. Assumes nothing.
 use mathlib.Core.Path.{◌≡◌, refl, sym, ap, ap₂, ◌∙◌}
-use mathlib.Core.Bool.{Bool, ◌&&◌}
-use mathlib.Core.List.{List, ◌++◌}
+use mathlib.Core.Bool.{Bool, false, ◌&&◌}
+use mathlib.Core.List.{List, ◌++◌, map}
 use Prim.Native.Nat.{ℕ, ◌+◌, ◌-◌, ◌*◌, ◌%◌, ◌<◌, ◌≤◌}
-use native.Mathlib.Nat.{zero-add, zero-mul}
+use native.Mathlib.Nat.{zero-add}
 use native.Mathlib.Omega.{arith}
 use lib.Dec.{eqb}
-use lib.ListN.{length, get_or, take, drop, get_or-append}
-use lib.Seq.{get_or-take, get_or-drop, drop_at}
+use lib.ListN.{length, get_or, take, drop, length-replicate}
+use lib.Seq.{get_or-take, get_or-drop}
+use Rattle.std.proofs.lemmas.List.{get_or-replicate, get_or-map}
+use Rattle.std.proofs.Math.ListN.{length-map}
 use borrow.Author.Tests.{lt-ltb, le-ltb}
-use Rattle.bits.specs.Lists.{tabulate, written}
-use Rattle.bits.proofs.NumberLaws.{row_next}
-use Rattle.bits.proofs.ListLaws.{length-tabulate, get_or-tabulate, tabulate-ext, written-ext}
+use Rattle.bits.specs.Lists.{written}
+use Rattle.bits.proofs.ListLaws.{tabulate-of, tabulate-ext}
 use Rattle.bits.proofs.SumLaws.{count_none}
 use Rattle.votes.specs.Votes.{carries as carries_on, votes, majority, decided}
 use Rattle.votes.specs.Loops.Counters.{middle, counted, Adds}
 use Rattle.votes.proofs.VoteLaws.{votes-le, votes-append}
 use Rattle.votes.proofs.CounterLaws.{adds-more, counted-long, counted-more, middle-counted, counter-decides}
 use Rattle.payload_layout.specs.declared.Layout.{Layout}
-use Rattle.payload_layout.specs.Layouts.{symbol_items, items, group_bits}
-use Rattle.payload_layout.specs.Items.{padded, carries}
+use Rattle.payload_layout.specs.Layouts.{items, group_bits}
+use Rattle.payload_layout.specs.Items.{padded, used, carries}
 use Rattle.payload_layout.proofs.CountLaws.{copies-most}
 use Rattle.payload_layout.proofs.ItemLaws.{unused-carries}
 use Rattle.payload_copying.specs.declared.Slot.{Slot}
-use Rattle.payload_copying.specs.Loops.Slots.{Slotted, slot_no, Standing}
-use Rattle.payload_copying.proofs.SymbolLaws.{slot-test, unused-at}
+use Rattle.payload_copying.specs.Loops.Slots.{Slotted, Carries}
+use Rattle.payload_copying.proofs.SymbolLaws.{slot-test}
 use Rattle.payload_combining.specs.Loops.Groups.{slot_on, group_on, middles}
 
 -- ---- the votes of a group: a run of data, and a run of pads
@@ -57,25 +58,29 @@ module _ (L : Layout) (k g from : ℕ) (f : from ≡ g * group_bits L) where
         adds-more L.coded 0 (group_on L k g) group before rest pad (carries_on (λ j. at + j)) between after
         (data-adds rest group before between (omega arith) first) (rw (zero-add rest) second) (λ j q l. pad-on j q)
 
--- ---- the votes of a symbol
+-- ---- the votes of a slot
 
-module _ (L : Layout) (z : Slotted L) where
-  slot_is : (y j : ℕ) (s : Slot) → y < L.symbols → j < L.copies → Standing L s → slot_no L s ≡ y * L.copies + j
-      → (n : ℕ) → n ≡ y * symbol_items L + j * group_bits L → (i : ℕ) → i < group_bits L → (b : ℕ) → slot_on L s.copy s.group i b ≡ carries L (n + i) b
-  unfolding slot_on carries_on
-  slot_is y j s hy hj at num n e i l b =
-      let p : y * symbol_items L + (j * group_bits L + i) ≡ n + i = omega arith in
-      slot-test L z y j s hy hj at num i l b ∙ ap (λ (m : ℕ). carries L m b) p
+slot_is : (L : Layout) (s : Slot) → Carries L s → (i b : ℕ) → i < group_bits L → slot_on L s.copy s.group i b ≡ carries L (s.start + i) b
+unfolding slot_on carries_on
+slot_is L s c i b h = slot-test L s c i b h
 
-  unused-votes : (y n m : ℕ) → n ≡ y * symbol_items L + L.copies * group_bits L → L.copies * group_bits L + m ≤ symbol_items L
-      → (r : List ℕ) (b v : ℕ) → votes m (λ j c. carries L (n + j) c) r b v ≡ 0
+-- items on unused carriers have no vote
+module _ (L : Layout) (n m : ℕ) (free : (i : ℕ) → n ≤ i → i < n + m → used L i ≡ false) where
+  free-votes : (r : List ℕ) (b v : ℕ) → votes m (λ j c. carries L (n + j) c) r b v ≡ 0
   unfolding votes
-  unused-votes y n m e w r b v =
-      count_none m _
-      (λ j h.
-      let p : n + j ≡ y * symbol_items L + (L.copies * group_bits L + j) = omega arith in
-      ap (λ (t : Bool). t && eqb (get_or r j 0) v)
-      (ap (λ (x : ℕ). carries L x b) p ∙ unused-carries L _ b (unused-at L z y (L.copies * group_bits L + j) (omega arith) (omega arith))))
+  free-votes r b v =
+      count_none m _ (λ j h. ap (λ (t : Bool). t && eqb (get_or r j 0) v) (unused-carries L (n + j) b (free (n + j) (omega arith) (omega arith))))
+
+  free-counted : (r start now : List ℕ) → now ≡ counted L.coded n (carries L) r start → now ≡ counted L.coded (n + m) (carries L) r start
+  unfolding counted
+  free-counted r start now e =
+      e
+      ∙ tabulate-ext L.coded _ _
+      (λ b l. ap₂ (λ (ones zeros : ℕ). (get_or start b 0 + ones + 255 * zeros) % 256) (side b 1) (side b 0))
+    where
+      side : (b v : ℕ) → votes n (carries L) r b v ≡ votes (n + m) (carries L) r b v
+      side b v =
+          omega (arith, votes-append n m (carries L) (λ j c. carries L (n + j) c) r b v (λ j k. refl), free-votes (drop n r) b v)
 
 module _ (L : Layout) (z : Slotted L) (r : List ℕ) where
   -- a bit has twelve votes at most
@@ -83,13 +88,12 @@ module _ (L : Layout) (z : Slotted L) (r : List ℕ) where
   all-few b v h = omega (arith, votes-le (items L) (carries L) r b v, copies-most L z.laid.sound b h z.laid.small)
 
   middle-at : (b : ℕ) → b < L.coded → get_or (middles L) b 0 ≡ middle
-  middle-at b h = get_or-tabulate L.coded (λ _. middle) b 0 h
+  middle-at b h = get_or-replicate L.coded b middle 0 h
 
   -- before any vote
-  pub none-counted : (now : List ℕ) → now ≡ middles L → now ≡ counted L.coded (0 * symbol_items L) (carries L) r (middles L)
+  pub none-counted : (now : List ℕ) → now ≡ middles L → now ≡ counted L.coded 0 (carries L) r (middles L)
   none-counted now e =
-      e ∙ middle-counted L.coded (carries L) r (middles L) (length-tabulate L.coded _) middle-at
-      ∙ ap (λ (n : ℕ). counted L.coded n (carries L) r (middles L)) (sym (zero-mul (symbol_items L)))
+      e ∙ middle-counted L.coded (carries L) r (middles L) (length-replicate L.coded middle) middle-at
 
   -- what a counter tells at the end
   votes-decide : (now : List ℕ) → now ≡ counted L.coded (items L) (carries L) r (middles L) → (b : ℕ) → b < L.coded
@@ -98,51 +102,29 @@ module _ (L : Layout) (z : Slotted L) (r : List ℕ) where
       counter-decides L.coded (items L) (carries L) r (middles L) now h b l (middle-at b l) (omega (arith, all-few b 0 l)) (omega (arith, all-few b 1 l))
 
   module _ (n : ℕ) (now : List ℕ) (h : now ≡ counted L.coded n (carries L) r (middles L)) where
-    -- a slot more
-    pub slot-more : (y j end : ℕ) (s : Slot) (later : List ℕ) → y < L.symbols → j < L.copies → Standing L s → slot_no L s ≡ y * L.copies + j
-        → n ≡ y * symbol_items L + j * group_bits L → end ≡ n + group_bits L
-        → later ≡ counted L.coded (group_bits L) (slot_on L s.copy s.group) (take (end - n) (drop n r)) now
-        → later ≡ counted L.coded end (carries L) r (middles L)
-    slot-more y j end s later hy hj at num e f p =
-        counted-more L.coded n (group_bits L) (carries L) (slot_on L s.copy s.group) r (take (end - n) (drop n r)) (middles L) now later h p
-        (λ i l b c. slot_is L z y j s hy hj at num n e i l b)
-        (λ i l. get_or-take (end - n) (drop n r) i 0 (omega arith) ∙ get_or-drop n r i 0)
-        ∙ ap (λ (m : ℕ). counted L.coded m (carries L) r (middles L)) (sym f)
-
-    -- the unused carriers have no vote
-    pub symbol-done : (y : ℕ) → n ≡ y * symbol_items L + L.copies * group_bits L → L.copies * group_bits L ≤ symbol_items L
-        → now ≡ counted L.coded ((y + 1) * symbol_items L) (carries L) r (middles L)
-    unfolding counted
-    symbol-done y e w =
-        h
-        ∙ tabulate-ext L.coded _ _
-        (λ b l. ap₂ (λ (ones zeros : ℕ). (get_or (middles L) b 0 + ones + 255 * zeros) % 256) (side b 1) (side b 0))
+    -- a slot more: its group's items, and those that have no vote
+    pub slot-more : (s : Slot) → Carries L s → s.start ≡ n → (end : ℕ) → end ≡ s.start + group_bits L → (later : List ℕ)
+        → later ≡ counted L.coded (group_bits L) (slot_on L s.copy s.group) (take (end - s.start) (drop s.start r)) now
+        → later ≡ counted L.coded s.end (carries L) r (middles L)
+    slot-more s c at end e later p =
+        free-counted L (n + group_bits L) (s.end - (n + group_bits L)) (λ i l k. c.unused i (omega (arith, at)) (omega (arith, at, c.room))) r (middles L) later first
+        ∙ ap (λ (m : ℕ). counted L.coded m (carries L) r (middles L))
+        (let all : n + group_bits L + (s.end - (n + group_bits L)) ≡ s.end = omega (arith, at, c.room) in all)
       where
-        side : (b v : ℕ) → votes n (carries L) r b v ≡ votes ((y + 1) * symbol_items L) (carries L) r b v
-        side b v =
-            let m : ℕ = symbol_items L - L.copies * group_bits L in
-            let whole : n + m ≡ (y + 1) * symbol_items L = omega (arith, row_next y (symbol_items L)) in
-            omega (
-              arith,
-              ap (λ (k : ℕ). votes k (carries L) r b v) whole,
-              votes-append n m (carries L) (λ j c. carries L (n + j) c) r b v (λ j k. refl),
-              unused-votes L z y n m e (omega arith) (drop n r) b v,
-            )
+        first : later ≡ counted L.coded (n + group_bits L) (carries L) r (middles L)
+        first =
+            counted-more L.coded n (group_bits L) (carries L) (slot_on L s.copy s.group) r (take (end - s.start) (drop s.start r)) (middles L) now later h p
+            (λ i l b q. slot_is L s c i b l ∙ ap (λ (x : ℕ). carries L (x + i) b) at)
+            (λ i l. get_or-take (end - s.start) (drop s.start r) i 0 (omega arith) ∙ get_or-drop s.start r i 0 ∙ ap (λ (x : ℕ). get_or r (x + i) 0) at)
 
-  -- the counters, in the buffer, are settled
-  pub settled-all : (out mid now after last : List ℕ) → mid ≡ written L.coded (λ _. middle) out
-      → now ≡ counted L.coded (items L) (carries L) r (middles L) → after ≡ now ++ drop L.coded mid
-      → last ≡ written L.coded (λ b. majority middle (get_or after b 0)) after → last ≡ written L.coded (decided (items L) (carries L) r) out
+  -- the counters, settled
+  pub settled-all : (out now : List ℕ) → now ≡ counted L.coded (items L) (carries L) r (middles L)
+      → map (majority middle) now ++ drop L.coded out ≡ written L.coded (decided (items L) (carries L) r) out
   unfolding written
-  settled-all out mid now after last m h a e =
-      e
-      ∙ written-ext L.coded _ _ after
-      (λ b l.
-      ap (λ (x : ℕ). majority middle x) (ap (λ (xs : List ℕ). get_or xs b 0) a ∙ get_or-append now (drop L.coded mid) 0 b (omega (arith, long)))
-      ∙ votes-decide now h b l)
-      ∙ ap (λ (xs : List ℕ). tabulate L.coded (decided (items L) (carries L) r) ++ xs)
-      (ap (drop L.coded) a ∙ drop_at now (drop L.coded mid) L.coded long ∙ ap (drop L.coded) m
-      ∙ drop_at (tabulate L.coded (λ _. middle)) (drop L.coded out) L.coded (length-tabulate L.coded _))
+  settled-all out now h =
+      ap (λ (xs : List ℕ). xs ++ drop L.coded out)
+      (tabulate-of L.coded _ 0 (map (majority middle) now) (length-map now (majority middle) ∙ long)
+      (λ b l. get_or-map (majority middle) now b 0 0 (omega (arith, long)) ∙ votes-decide now h b l))
     where
       long : length now ≡ L.coded
       long = counted-long L.coded (items L) (carries L) r (middles L) now h

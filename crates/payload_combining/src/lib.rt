@@ -3,19 +3,19 @@
 // Internal: nothing here is a public entry, and callers show what a function requires.
 #![tactic(auto)]
 
-ghost use Rattle.std.specs.Prelude.{◌≡◌, ℕ, ◌+◌, ◌*◌, ◌<◌, ◌≤◌, length, get_or};
+ghost use Rattle.std.specs.Prelude.{◌≡◌, ℕ, ◌+◌, ◌*◌, ◌<◌, ◌≤◌, length, get_or, map};
 ghost use Rattle.bits.specs.Lists.{written};
 ghost use Rattle.bits.specs.Permutations.{Permutes};
 ghost use Rattle.votes.specs.Votes.{majority as majority_of, decided};
 ghost use Rattle.votes.specs.Loops.Counters.{middle, counted, Adds};
-ghost use Rattle.payload_layout.specs.Layouts.{items as items_of, symbol_items, group_bits};
+ghost use Rattle.payload_layout.specs.Layouts.{items as items_of, group_bits};
 ghost use Rattle.payload_layout.specs.Loops.Bounds.{CarrierBits, Laid};
 ghost use Rattle.payload_layout.specs.Items.{padded, carries};
-ghost use Rattle.payload_copying.specs.Loops.Slots.{Slotted, Addresses, slot_no, Standing};
+ghost use Rattle.payload_copying.specs.Loops.Slots.{Slotted, Carries};
 ghost use Rattle.payload_combining.specs.Loops.Copies.{of_one, of_two};
 ghost use Rattle.payload_combining.specs.Loops.Groups.{slot_on, group_on, middles};
 
-use payload_copying::Slot;
+use payload_copying::{Slot, Slots};
 use payload_layout::Layout;
 use votes::MIDDLE;
 
@@ -29,6 +29,7 @@ fn of_one(item: u8) -> u8
 }
 
 // What a bit's two copies decide. By sums and not by cases, which the loop below runs faster.
+#[tactic(auto, unfolding(crate::specs::Loops::Copies::of_two))]
 fn of_two(a: u8, b: u8) -> u8
     ensures { result ≡ of_two a b }
 {
@@ -43,10 +44,8 @@ fn decide_ones(items: &[u8], out: &mut [u8])
     ensures { out.new ≡ written (length items.now)
         (λ b. of_one (get_or items.now b 0)) out.old }
 {
-    let mut b: usize = 0;
-    while b < items.len() {
-        out[b] = of_one(items[b]);
-        b += 1;
+    for (b, &item) in items.iter().enumerate() {
+        out[b] = of_one(item);
     }
 }
 
@@ -56,10 +55,8 @@ fn decide_twos(items: &[u8], pad: &[u8], out: &mut [u8])
     ensures { out.new ≡ written (length pad.now)
         (λ b. of_two (get_or items.now b 0) (get_or pad.now b 0)) out.old }
 {
-    let mut b: usize = 0;
-    while b < pad.len() {
-        out[b] = of_two(items[b], pad[b]);
-        b += 1;
+    for (b, &again) in pad.iter().enumerate() {
+        out[b] = of_two(items[b], again);
     }
 }
 
@@ -79,153 +76,101 @@ fn decide_once(l: Layout, items: &[u8], out: &mut [u8])
 const SHORTEST_RUN: usize = 8;
 
 // The carriers of `items`, put back where the given order takes them from.
+fn spread_by<const BITS: usize>(order: &[u16], items: &[u8], group: &mut [u8])
+    requires room { (length order.now * BITS ≤ length items.now) × (length order.now * BITS ≤ length group.old) }
+    requires permutes { Permutes (length order.now) (λ p. get_or order.now p 0) }
+    ensures { (p e : ℕ) → p < length order.now → e < BITS → get_or group.new (get_or order.now p 0 * BITS + e) 0 ≡ get_or items.now (p * BITS + e) 0 }
+{
+    for (p, &address) in order.iter().enumerate() {
+        payload_copying::copy_carrier::<BITS>(items, p * BITS, group, usize::from(address) * BITS);
+    }
+}
+
+// The same, of carriers with so many bits each.
 fn spread(bits: usize, order: &[u16], items: &[u8], group: &mut [u8])
     requires carrier_bits { (CarrierBits bits) × (length order.now ≤ 410) × (length order.now * bits ≤ length items.now) × (length order.now * bits ≤ length group.old) }
     requires permutes { Permutes (length order.now) (λ p. get_or order.now p 0) }
     ensures { (p e : ℕ) → p < length order.now → e < bits → get_or group.new (get_or order.now p 0 * bits + e) 0 ≡ get_or items.now (p * bits + e) 0 }
 {
-    let mut from: usize = 0;
-    let mut p: usize = 0;
-    while p < order.len() {
-        let to = payload_copying::wide(order[p]) * bits;
-        payload_copying::copy_carrier(bits, items, from, group, to);
-        from += bits;
-        p += 1;
+    match bits {
+        1 => spread_by::<1>(order, items, group),
+        2 => spread_by::<2>(order, items, group),
+        _ => spread_by::<4>(order, items, group),
     }
 }
 
-// The votes of group g of copy k, in order: a run of the coded bits, and in the last group a run of pads after it.
-fn count_group(l: Layout, k: usize, g: usize, group: &[u8], counters: &mut [u8])
-    requires { (Slotted l) × (k < l.copies) × (g < l.symbols) × (length group.now ≡ 816) × (length counters.old ≡ l.coded) }
-    ensures { Adds l.coded 0 (group_bits l) (group_on l k g) group.now counters.old counters.new }
+// The votes of a slot's group, in order: a run of the coded bits, and in the last group a run of pads after it.
+fn count_group(slots: &Slots, slot: Slot, group: &[u8; 816], counters: &mut [u8])
+    requires { (Carries slots.now.layout slot) × (length counters.old ≡ slots.now.layout.coded) }
+    ensures { Adds slots.now.layout.coded 0 (group_bits slots.now.layout) (group_on slots.now.layout slot.copy slot.group) group.now counters.old counters.new }
 {
-    let group_bits = l.interleavers * l.span * l.bits;
-    let from = g * group_bits;
-    let coded = l.coded;
+    let Layout { coded, pad, .. } = slots.layout;
+    let group_bits = slots.group_bits();
+    let from = slot.group * group_bits;
     if from + group_bits <= coded {
         votes::count_run(0, from, group_bits, group, counters);
         return;
     }
     let rest = coded - from;
     votes::count_run(0, from, rest, group, counters);
-    votes::count_run(rest, k * l.pad, group_bits - rest, group, counters);
+    votes::count_run(rest, slot.copy * pad, group_bits - rest, group, counters);
 }
 
-// The votes of a slot in which group g of copy k stands: its carriers are put back in order.
-fn count_wide(
-    l: Layout,
-    k: usize,
-    g: usize,
-    table: &[u16],
-    items: &[u8],
-    group: &mut [u8],
-    counters: &mut [u8],
-)
-    requires slotted { (Slotted l) × (k < l.copies) × (g < l.symbols) × (Addresses l table.now) × (length items.now ≡ group_bits l) }
-    requires group_len { (length group.old ≡ 816) × (length counters.old ≡ l.coded) }
-    ensures { counters.new ≡ counted l.coded (group_bits l) (slot_on l k g) items.now counters.old }
+// The votes of a slot, whose carriers are put back in order.
+fn count_wide(slots: &Slots, slot: Slot, items: &[u8], group: &mut [u8; 816], counters: &mut [u8])
+    requires { (Carries slots.now.layout slot) × (length items.now ≡ group_bits slots.now.layout) × (length counters.old ≡ slots.now.layout.coded) }
+    ensures { counters.new ≡ counted slots.now.layout.coded (group_bits slots.now.layout) (slot_on slots.now.layout slot.copy slot.group) items.now counters.old }
 {
-    let size = l.interleavers * l.span;
-    let first = k * size;
-    let end = first + size;
-    spread(l.bits, &table[first..end], items, group);
-    count_group(l, k, g, group, counters);
+    spread(slots.layout.bits, slots.order(slot.copy), items, group);
+    count_group(slots, slot, group, counters);
 }
 
 // The coded bit that bit x of the padded data of copy k is.
-fn padded_bit(l: Layout, k: usize, x: usize) -> usize
-    requires { (Slotted l) × (k < l.copies) × (x < l.coded + l.pad) }
-    ensures value { result ≡ padded l k x }
-    ensures within { result < l.coded }
+#[tactic(auto, unfolding(payload_layout::specs::Items::padded))]
+fn padded_bit(slots: &Slots, k: usize, x: usize) -> usize
+    requires { (k < slots.now.layout.copies) × (x < slots.now.layout.coded + slots.now.layout.pad) }
+    ensures value { result ≡ padded slots.now.layout k x }
+    ensures within { result < slots.now.layout.coded }
 {
-    if x < l.coded {
-        return x;
-    }
-    k * l.pad + (x - l.coded)
+    let Layout { coded, pad, .. } = slots.layout;
+    if x < coded { x } else { k * pad + (x - coded) }
 }
 
-// The votes of such a slot carrier by carrier, where each has one bit.
-fn count_narrow(l: Layout, k: usize, g: usize, table: &[u16], items: &[u8], counters: &mut [u8])
-    requires slotted { (Slotted l) × (l.bits ≡ 1) × (k < l.copies) × (g < l.symbols) × (Addresses l table.now) }
-    requires len { (length items.now ≡ group_bits l) × (length counters.old ≡ l.coded) }
-    ensures { counters.new ≡ counted l.coded (group_bits l) (slot_on l k g) items.now counters.old }
+// The votes of a slot carrier by carrier, where each has one bit.
+fn count_narrow(slots: &Slots, slot: Slot, items: &[u8], counters: &mut [u8])
+    requires carries { (Carries slots.now.layout slot) × (slots.now.layout.bits ≡ 1) }
+    requires len { (length items.now ≡ group_bits slots.now.layout) × (length counters.old ≡ slots.now.layout.coded) }
+    ensures { counters.new ≡ counted slots.now.layout.coded (group_bits slots.now.layout) (slot_on slots.now.layout slot.copy slot.group) items.now counters.old }
 {
-    let size = l.interleavers * l.span;
-    let first = k * size;
-    let from = g * size;
-    let mut p: usize = 0;
-    while p < size {
-        let at = padded_bit(l, k, from + payload_copying::wide(table[first + p]));
+    let from = slot.group * slots.group_carriers();
+    for (p, &address) in slots.order(slot.copy).iter().enumerate() {
+        let at = padded_bit(slots, slot.copy, from + usize::from(address));
         counters[at] = votes::voted(counters[at], items[p]);
-        p += 1;
     }
 }
 
-// The votes of slot s. A short run would be counted item by item too, so its carriers need not be put back.
-fn count_slot(
-    l: Layout,
-    s: Slot,
-    table: &[u16],
-    items: &[u8],
-    group: &mut [u8],
-    counters: &mut [u8],
-)
-    requires slotted { (Slotted l) × (s.copy < l.copies) × (s.group < l.symbols) × (Addresses l table.now) }
-    requires len { (length items.now ≡ group_bits l) × (length group.old ≡ 816) × (length counters.old ≡ l.coded) }
-    ensures { counters.new ≡ counted l.coded (group_bits l) (slot_on l s.copy s.group) items.now counters.old }
+// The votes of a slot. A short run would be counted item by item too, so its carriers need not be put back.
+fn count_slot(slots: &Slots, slot: Slot, items: &[u8], group: &mut [u8; 816], counters: &mut [u8])
+    requires { (Carries slots.now.layout slot) × (length items.now ≡ group_bits slots.now.layout) × (length counters.old ≡ slots.now.layout.coded) }
+    ensures { counters.new ≡ counted slots.now.layout.coded (group_bits slots.now.layout) (slot_on slots.now.layout slot.copy slot.group) items.now counters.old }
 {
-    if l.bits == 1 {
-        if l.interleavers * l.span < SHORTEST_RUN {
-            count_narrow(l, s.copy, s.group, table, items, counters);
-            return;
-        }
+    if slots.layout.bits == 1 && slots.group_carriers() < SHORTEST_RUN {
+        count_narrow(slots, slot, items, counters);
+    } else {
+        count_wide(slots, slot, items, group, counters);
     }
-    count_wide(l, s.copy, s.group, table, items, group, counters);
 }
 
-// The votes of symbol y, whose first slot is given; the answer is the slot after its last. Items on unused carriers have no vote.
-fn count_symbol(
-    l: Layout,
-    y: usize,
-    first: Slot,
-    table: &[u16],
-    items: &[u8],
-    group: &mut [u8],
-    counters: &mut [u8],
-) -> Slot
-    requires slotted { (Slotted l) × (y < l.symbols) × (Standing l first) × (slot_no l first ≡ y * l.copies) × (Addresses l table.now) }
-    requires len { (length items.now ≡ items_of l) × (length group.old ≡ 816) }
-    requires counters_len { (length counters.old ≡ l.coded) × (counters.old ≡ counted l.coded (y * symbol_items l) (carries l) items.now (middles l)) }
-    ensures walked { (Standing l result) × (slot_no l result ≡ (y + 1) * l.copies) }
-    ensures voted { counters.new ≡ counted l.coded ((y + 1) * symbol_items l) (carries l) items.now (middles l) }
+// All votes, slot by slot. Items on unused carriers have none.
+fn count_slots(slots: &Slots, items: &[u8], counters: &mut [u8])
+    requires { (length items.now ≡ items_of slots.now.layout) × (counters.old ≡ middles slots.now.layout) }
+    ensures { counters.new ≡ counted slots.now.layout.coded (items_of slots.now.layout) (carries slots.now.layout) items.now (middles slots.now.layout) }
 {
-    let group_bits = l.interleavers * l.span * l.bits;
-    let copies = l.copies;
-    let mut s = first;
-    let mut j: usize = 0;
-    let mut n = y * (l.carriers * l.bits);
-    while j < copies {
-        let end = n + group_bits;
-        count_slot(l, s, table, &items[n..end], group, counters);
-        s = payload_copying::next_slot(l, s);
-        n = end;
-        j += 1;
-    }
-    s
-}
-
-// All votes, by symbol.
-fn count_symbols(l: Layout, table: &[u16], items: &[u8], counters: &mut [u8])
-    requires { (Slotted l) × (Addresses l table.now) × (length items.now ≡ items_of l) × (counters.old ≡ middles l) }
-    ensures { counters.new ≡ counted l.coded (items_of l) (carries l) items.now (middles l) }
-{
-    let symbols = l.symbols;
-    let mut group = payload_copying::no_group();
-    let mut s = payload_copying::first_slot(l, 0);
-    let mut y: usize = 0;
-    while y < symbols {
-        s = count_symbol(l, y, s, table, items, &mut group, counters);
-        y += 1;
+    let group_bits = slots.group_bits();
+    let mut group = [0u8; 816];
+    for slot in slots.walk() {
+        let end = slot.start + group_bits;
+        count_slot(slots, slot, &items[slot.start..end], &mut group, counters);
     }
 }
 
@@ -236,15 +181,12 @@ fn settled(counter: u8) -> u8
     votes::majority(MIDDLE, counter)
 }
 
-// Each of `count` counters in place becomes what it decides.
-fn settle(count: usize, out: &mut [u8])
-    requires { count ≤ length out.old }
-    ensures { out.new ≡ written count (λ b. majority_of middle (get_or out.old b 0)) out.old }
+// Each counter becomes what it decides.
+fn settle(counters: &mut [u8])
+    ensures { counters.new ≡ map (majority_of middle) counters.old }
 {
-    let mut i: usize = 0;
-    while i < count {
-        out[i] = settled(out[i]);
-        i += 1;
+    for counter in counters.iter_mut() {
+        *counter = settled(*counter);
     }
 }
 
@@ -253,11 +195,10 @@ fn decide_copies(l: Layout, items: &[u8], out: &mut [u8])
     requires { (Slotted l) × (length items.now ≡ items_of l) × (l.coded ≤ length out.old) }
     ensures { out.new ≡ written l.coded (decided (items_of l) (carries l) items.now) out.old }
 {
-    let n = l.coded;
-    let table = payload_copying::table_of(l);
-    bits::fill(n, MIDDLE, out);
-    count_symbols(l, &table, items, &mut out[..n]);
-    settle(n, out);
+    let counters = &mut out[..l.coded];
+    counters.fill(MIDDLE);
+    count_slots(&Slots::of(l), items, counters);
+    settle(counters);
 }
 
 // Each coded bit by strict majority of its copies, at the start of `out`: 0, 1, or 2 where there is none.

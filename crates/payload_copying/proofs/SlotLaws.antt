@@ -20,16 +20,12 @@ use Rattle.payload_layout.specs.declared.Layout.{Layout}
 use Rattle.payload_layout.specs.Layouts.{group_carriers, group_bits}
 use Rattle.payload_layout.specs.Items.{group_order, padded}
 use Rattle.payload_layout.proofs.OrderLaws.{group-permutes}
-use Rattle.payload_copying.specs.Loops.Slots.{Slotted, Addresses, slot_bit, taken, LastGroup}
+use Rattle.payload_copying.specs.Loops.Slots.{Slotted, Addresses, Order, slot_bit, taken, LastGroup}
 use Rattle.payload_copying.proofs.SlottedLaws.{order-within, group-from, group-last}
 
 -- bit x of group g in the padded data of copy k
 abbrev pub Sourced : Layout → ℕ → ℕ → List ℕ → List ℕ → Type 0
 Sourced L k g coded src = (x : ℕ) → x < group_bits L → get_or src x 0 ≡ get_or coded (padded L k (g * group_bits L + x)) 0
-
--- the part of the table that is copy k's order
-abbrev pub order_of : ℕ → ℕ → List ℕ → List ℕ
-order_of first end table = take (end - first) (drop first table)
 
 -- an item of a slot is a bit of its group, by the order of the carriers
 pub slot_at : (L : Layout) (k g i : ℕ) → slot_bit L k g i ≡ padded L k (g * group_bits L + (group_order L k (i / L.bits) * L.bits + i % L.bits))
@@ -57,43 +53,45 @@ module _ (L : Layout) (s : Slotted L) where
 
   -- ---- the order
 
-  module _ (k : ℕ) (hk : k < L.copies) (table : List ℕ) (t : Addresses L table) (first end : ℕ) (f : first ≡ k * group_carriers L) (e : end ≡ first + group_carriers L) where
-    pub order-long : length (order_of first end table) ≡ group_carriers L
-    order-long = simp (length-take, length-drop) (omega (arith, order-within L s k hk, t.long))
+  pub order-made : (k : ℕ) → k < L.copies → (table : List ℕ) → Addresses L table → (size first : ℕ) → size ≡ group_carriers L → first ≡ k * group_carriers L
+      → Order L k (take size (drop first table))
+  order-made k hk table t size first n f =
+      record {
+        long = simp (length-take, length-drop) (omega (arith, order-within L s k hk, t.long));
+        at = λ p h.
+            get_or-take size (drop first table) p 0 (omega arith) ∙ get_or-drop first table p 0
+            ∙ ap (λ (x : ℕ). get_or table (x + p) 0) f
+            ∙ t.at (k * group_carriers L + p) (digits_lt {c = group_carriers L} hk h) ∙ address-group k p h;
+      }
 
-    pub order-at : (p : ℕ) → p < group_carriers L → get_or (order_of first end table) p 0 ≡ group_order L k p
-    order-at p h =
-        get_or-take (end - first) (drop first table) p 0 (omega arith) ∙ get_or-drop first table p 0
-        ∙ ap (λ (x : ℕ). get_or table (x + p) 0) f
-        ∙ t.at (k * group_carriers L + p) (digits_lt {c = group_carriers L} hk h) ∙ address-group k p h
-
+  module _ (k : ℕ) (order : List ℕ) (o : Order L k order) where
     -- a carrier of the group is in a list that holds the group
-    pub order-in : (src : List ℕ) → group_bits L ≤ length src → (p : ℕ) → p < length (order_of first end table)
-        → get_or (order_of first end table) p 0 * L.bits + L.bits ≤ length src
+    pub order-in : (src : List ℕ) → group_bits L ≤ length src → (p : ℕ) → p < length order
+        → get_or order p 0 * L.bits + L.bits ≤ length src
     order-in src h p l =
-        let q : p < group_carriers L = omega (arith, order-long) in
-        let o : group_order L k p < group_carriers L = (group-permutes L s.laid.sound k).below p q in
-        omega (arith, ap (λ (x : ℕ). x * L.bits) (order-at p q), row_within (group_order L k p) L.bits (group_carriers L) o)
+        let q : p < group_carriers L = omega (arith, o.long) in
+        let below : group_order L k p < group_carriers L = (group-permutes L s.laid.sound k).below p q in
+        omega (arith, ap (λ (x : ℕ). x * L.bits) (o.at p q), row_within (group_order L k p) L.bits (group_carriers L) below)
 
     -- the items of a slot
     pub slot-laid : (g : ℕ) (coded src out after : List ℕ) → Sourced L k g coded src
-        → after ≡ written (length (order_of first end table) * L.bits) (taken L.bits (order_of first end table) src) out
+        → after ≡ written (length order * L.bits) (taken L.bits order src) out
         → after ≡ written (group_bits L) (λ i. get_or coded (slot_bit L k g i) 0) out
     unfolding taken
     slot-laid g coded src out after from w =
-        w ∙ ap (λ (n : ℕ). written (n * L.bits) (taken L.bits (order_of first end table) src) out) order-long
+        w ∙ ap (λ (n : ℕ). written (n * L.bits) (taken L.bits order src) out) o.long
         ∙ written-ext (group_bits L) _ _ out each
       where
-        each : (i : ℕ) → i < group_bits L → taken L.bits (order_of first end table) src i ≡ get_or coded (slot_bit L k g i) 0
+        each : (i : ℕ) → i < group_bits L → taken L.bits order src i ≡ get_or coded (slot_bit L k g i) 0
         each i h =
             let b : 0 < L.bits = s.laid.sound.bits_pos in
             let p : i / L.bits < group_carriers L = (div-lt_iff_lt-mul {k = L.bits} b).1 h in
             let r : i % L.bits < L.bits = mod-lt i b in
-            let o = group_order L k (i / L.bits) in
-            let lo : o < group_carriers L = (group-permutes L s.laid.sound k).below (i / L.bits) p in
-            let x : o * L.bits + i % L.bits < group_bits L = digits_lt {c = L.bits} lo r in
-            ap (λ (y : ℕ). get_or src (y * L.bits + i % L.bits) 0) (order-at (i / L.bits) p)
-            ∙ from (o * L.bits + i % L.bits) x ∙ ap (λ (y : ℕ). get_or coded y 0) (sym (slot_at L k g i))
+            let a = group_order L k (i / L.bits) in
+            let lo : a < group_carriers L = (group-permutes L s.laid.sound k).below (i / L.bits) p in
+            let x : a * L.bits + i % L.bits < group_bits L = digits_lt {c = L.bits} lo r in
+            ap (λ (y : ℕ). get_or src (y * L.bits + i % L.bits) 0) (o.at (i / L.bits) p)
+            ∙ from (a * L.bits + i % L.bits) x ∙ ap (λ (y : ℕ). get_or coded y 0) (sym (slot_at L k g i))
 
   -- ---- the group
 

@@ -1,25 +1,27 @@
 -- Laws of a symbol: its slots carry the groups that stand there, and its unused carriers nothing. Assumes nothing.
 use mathlib.Core.Path.{◌≡◌, sym, ap, ap₂, ◌∙◌}
 use mathlib.Core.Bool.{Bool, true, false, cond, ◌&&◌}
-use Prim.Native.Nat.{ℕ, ◌+◌, ◌*◌, ◌/◌, ◌%◌, ◌<◌, ◌≤◌}
+use Prim.Native.Nat.{ℕ, ◌+◌, ◌-◌, ◌*◌, ◌/◌, ◌%◌, ◌<◌, ◌≤◌}
 use native.Mathlib.Nat.{mul_assoc, mul_comm, add-mul, mod-lt, div-add-mod', div-lt_iff_lt-mul, lt_of_mul-lt-mul_right, mul-le-mul_right}
 use native.Mathlib.Omega.{arith}
 use lib.Arith.{digits_div, digits_mod, digits_lt}
 use lib.Dec.{eqb}
-use Rattle.bits.proofs.NumberLaws.{lt-cases, row_within}
+use Rattle.bits.proofs.NumberLaws.{lt-cases, row_next, row_within}
 use Rattle.address_interleaver.specs.Addresses.{circshift}
 use Rattle.payload_layout.specs.declared.Layout.{Layout}
-use Rattle.payload_layout.specs.Layouts.{group_carriers, used_carriers, group_bits, symbol_items}
+use Rattle.payload_layout.specs.Layouts.{group_carriers, used_carriers, group_bits, symbol_items, items}
 use Rattle.payload_layout.specs.Items.{group_order, padded, used, carried, carries, sent_on}
 use Rattle.payload_layout.proofs.CarriedLaws.{top-unused}
 use Rattle.payload_layout.proofs.ItemLaws.{unused-sent}
+use Rattle.payload_copying.specs.declared.Place.{Place}
 use Rattle.payload_copying.specs.declared.Slot.{Slot}
-use Rattle.payload_copying.specs.Loops.Slots.{Slotted, slot_no, Standing, slot_bit}
+use Rattle.payload_copying.specs.Loops.Slots.{Slotted, slot_no, Standing, slot_bit, Walking, Carries}
+use Rattle.payload_copying.proofs.SlottedLaws.{items-rows}
 use Rattle.payload_copying.proofs.ItemLaws.{slot_carrier, at_place, slot-used, slot-carried}
 
--- a slot names a copy and a group that there are
-abbrev pub Within : Layout → Slot → Type 0
-Within L s = (s.copy < L.copies) × (s.group < L.symbols)
+-- a place names a copy and a group that there are
+abbrev pub Within : Layout → Place → Type 0
+Within L p = (p.copy < L.copies) × (p.group < L.symbols)
 
 module _ (L : Layout) (z : Slotted L) where
   pub used-bits : L.copies * group_bits L ≤ symbol_items L
@@ -31,7 +33,7 @@ module _ (L : Layout) (z : Slotted L) where
 
   -- ---- the slot at which a walk stands
 
-  module _ (y j : ℕ) (s : Slot) (hy : y < L.symbols) (hj : j < L.copies) (at : Standing L s) (no : slot_no L s ≡ y * L.copies + j) where
+  module _ (y j : ℕ) (s : Place) (hy : y < L.symbols) (hj : j < L.copies) (at : Standing L s) (no : slot_no L s ≡ y * L.copies + j) where
     pub slot-in : Within L s
     slot-in =
         let l : y * L.copies + j < L.symbols * L.copies = digits_lt {c = L.copies} hy hj in (
@@ -78,14 +80,6 @@ module _ (L : Layout) (z : Slotted L) where
           ap (carried L) numbered ∙ slot-carried L z.laid.sound y j (i / L.bits) (i % L.bits) hj at-carrier at-bit
           ∙ ap₂ (λ (k c : ℕ). padded L k (c * L.bits + i % L.bits)) copy_is (carrier-is (i / L.bits))
 
-      pub slot-sent : (d : ℕ → ℕ) → d (slot_bit L s.copy s.group i) ≡ sent_on L d (y * symbol_items L + (j * group_bits L + i))
-      unfolding sent_on
-      slot-sent d = sym (ap₂ (λ (u : Bool) (b : ℕ). cond u (d b) 0) slot-in-use slot-carries)
-
-      pub slot-test : (b : ℕ) → eqb (slot_bit L s.copy s.group i) b ≡ carries L (y * symbol_items L + (j * group_bits L + i)) b
-      unfolding carries
-      slot-test b = sym (ap₂ (λ (u : Bool) (a : ℕ). u && eqb a b) slot-in-use slot-carries)
-
   -- ---- the unused carriers
 
   pub unused-at : (y i : ℕ) → i < symbol_items L → L.copies * group_bits L ≤ i → used L (y * symbol_items L + i) ≡ false
@@ -104,5 +98,89 @@ module _ (L : Layout) (z : Slotted L) where
       (λ k. k) in
       top-unused L (y * symbol_items L + i) (omega (arith, q))
 
-  pub cleared : (d : ℕ → ℕ) (y i : ℕ) → i < symbol_items L → L.copies * group_bits L ≤ i → 0 ≡ sent_on L d (y * symbol_items L + i)
-  cleared d y i h l = sym (unused-sent L d (y * symbol_items L + i) (unused-at y i h l))
+-- ---- a walk over all slots
+
+module _ (L : Layout) (z : Slotted L) (p : Place) (y j n : ℕ) (w : Walking L p y j n) where
+  pub walk-end : y ≡ L.symbols → n ≡ items L
+  walk-end e =
+      let rows : y * L.copies ≡ L.symbols * L.copies = ap (λ (k : ℕ). k * L.copies) e in
+      let none : j ≡ 0 = omega (arith, rows, w.number_in) in
+      w.start-is ∙ ap₂ (λ (k l : ℕ). k * symbol_items L + l * group_bits L) e none
+      ∙ (let k : L.symbols * symbol_items L + 0 * group_bits L ≡ items L = omega (arith, items-rows L z) in k)
+
+  module _ (hy : y < L.symbols) where
+    pub place-in : Within L p
+    place-in = slot-in L z y j p hy w.lane_in w.standing w.number
+
+    symbol-end : y * symbol_items L + symbol_items L ≤ items L
+    symbol-end = omega (arith, row_within y (symbol_items L) L.symbols hy, items-rows L z)
+
+    pub walk-room : n + group_bits L ≤ items L
+    walk-room = omega (arith, w.start-is, slot-within L z j w.lane_in, symbol-end)
+
+    pub walk-next : (q : Place) → Standing L q → slot_no L q ≡ slot_no L p + 1 → j + 1 < L.copies → Walking L q y (j + 1) (n + group_bits L)
+    walk-next q at next h =
+        record {
+          standing = at;
+          number = omega (arith, next, w.number);
+          lane_in = h;
+          symbol_in = w.symbol_in;
+          number_in = omega (arith, row_within y L.copies L.symbols hy);
+          start-is = omega (arith, w.start-is, row_next j (group_bits L));
+        }
+
+    pub walk-row : (q : Place) → Standing L q → slot_no L q ≡ slot_no L p + 1 → L.copies ≤ j + 1 → Walking L q (y + 1) 0 ((y + 1) * symbol_items L)
+    walk-row q at next h =
+        record {
+          standing = at;
+          number = omega (arith, next, w.number, w.lane_in, row_next y L.copies);
+          lane_in = z.laid.sound.copies-pos;
+          symbol_in = omega arith;
+          number_in = omega (arith, row_next y L.copies, row_within y L.copies L.symbols hy);
+          start-is = omega arith;
+        }
+
+    carries-to : (end : ℕ) → n + group_bits L ≤ end → end ≤ items L → ((m : ℕ) → n + group_bits L ≤ m → m < end → used L m ≡ false)
+        → Carries L (record { copy = p.copy; group = p.group; start = n; end = end })
+    carries-to end room within free =
+        record {
+          copy_in = place-in.0;
+          group-in = place-in.1;
+          room = room;
+          end_in = within;
+          in-use = λ i h.
+              let at : n + i ≡ y * symbol_items L + (j * group_bits L + i) = omega (arith, w.start-is) in
+              ap (used L) at ∙ slot-in-use L z y j p hy w.lane_in w.standing w.number i h;
+          bit-is = λ i h.
+              let at : n + i ≡ y * symbol_items L + (j * group_bits L + i) = omega (arith, w.start-is) in
+              ap (carried L) at ∙ slot-carries L z y j p hy w.lane_in w.standing w.number i h;
+          unused = free;
+        }
+
+    pub carries-next : Carries L (record { copy = p.copy; group = p.group; start = n; end = n + group_bits L })
+    carries-next = carries-to (n + group_bits L) (omega arith) walk-room (λ m l h. absurd (omega arith))
+
+    pub carries-row : L.copies ≤ j + 1 → Carries L (record { copy = p.copy; group = p.group; start = n; end = (y + 1) * symbol_items L })
+    carries-row h =
+        let last : (j + 1) * group_bits L ≡ L.copies * group_bits L = ap (λ (k : ℕ). k * group_bits L) (let e : j + 1 ≡ L.copies = omega (arith, w.lane_in) in e) in
+        let from : n + group_bits L ≡ y * symbol_items L + L.copies * group_bits L = omega (arith, w.start-is, row_next j (group_bits L), last) in
+        carries-to ((y + 1) * symbol_items L)
+        (omega (arith, from, used-bits L z, row_next y (symbol_items L)))
+        (omega (arith, symbol-end, row_next y (symbol_items L)))
+        (λ m l k.
+        let at : m ≡ y * symbol_items L + (m - y * symbol_items L) = omega (arith, from) in
+        ap (used L) at ∙ unused-at L z y (m - y * symbol_items L) (omega (arith, row_next y (symbol_items L))) (omega (arith, from)))
+
+-- ---- the items of a slot
+
+module _ (L : Layout) (s : Slot) (c : Carries L s) where
+  pub slot-sent : (d : ℕ → ℕ) (i : ℕ) → i < group_bits L → d (slot_bit L s.copy s.group i) ≡ sent_on L d (s.start + i)
+  unfolding sent_on
+  slot-sent d i h = sym (ap₂ (λ (u : Bool) (b : ℕ). cond u (d b) 0) (c.in-use i h) (c.bit-is i h))
+
+  pub slot-clear : (d : ℕ → ℕ) (n : ℕ) → s.start + group_bits L ≤ n → n < s.end → 0 ≡ sent_on L d n
+  slot-clear d n l h = sym (unused-sent L d n (c.unused n l h))
+
+  pub slot-test : (i b : ℕ) → i < group_bits L → eqb (slot_bit L s.copy s.group i) b ≡ carries L (s.start + i) b
+  unfolding carries
+  slot-test i b h = sym (ap₂ (λ (u : Bool) (a : ℕ). u && eqb a b) (c.in-use i h) (c.bit-is i h))

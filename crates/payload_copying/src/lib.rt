@@ -3,131 +3,231 @@
 // Internal: nothing here is a public entry, and callers show what a function requires. `payload_combining` walks the same slots.
 #![tactic(auto)]
 
-ghost use Rattle.std.specs.Prelude.{◌≡◌, ℕ, ◌+◌, ◌*◌, ◌<◌, ◌≤◌, length, get_or, replicate};
+ghost use Rattle.std.specs.Prelude.{◌≡◌, ℕ, ◌+◌, ◌-◌, ◌*◌, ◌<◌, ◌≤◌, length, get_or};
+ghost use Rattle.std.specs.Iterator.{at_most};
+ghost use Rattle.std.proofs.Props.{props};
 ghost use Rattle.bits.specs.Lists.{written};
-ghost use Rattle.payload_layout.specs.Layouts.{items as items_of, symbol_items, used_carriers, group_bits};
-ghost use Rattle.payload_layout.specs.Loops.Bounds.{CarrierBits, Laid};
+ghost use Rattle.payload_layout.specs.Layouts.{items as items_of, group_carriers, group_bits, symbol_items};
+ghost use Rattle.payload_layout.specs.Loops.Bounds.{CarrierBits, Laid, CarrierBits-prop};
 ghost use Rattle.payload_layout.specs.Items.{sent_on};
-ghost use Rattle.payload_copying.specs.Loops.Slots.{Slotted, address, Addresses, slot_no, Standing, slot_bit, Copied, taken, LastGroup};
+ghost use Rattle.payload_copying.specs.Loops.Slots.{Slotted, Addresses, Order, slot_no, Standing, Walking, Carries, Gives, slot_bit, Copied, taken, LastGroup};
 
 use payload_layout::Layout;
 
-// ---- the addresses
+// ---- the slots
 
-// Room for the addresses.
-fn no_addresses() -> [u16; 410]
-    ensures { result ≡ replicate 410 0 }
-{
-    [0u16; 410]
+// A layout of more than one copy, and the addresses of its interleavers, side by side.
+#[derive(Drop)]
+pub struct Slots {
+    pub layout: Layout,
+    table: [u16; 410],
+    ghost slotted: { Slotted layout } by { Prim.hlevel (props, CarrierBits-prop) },
+    ghost addresses: { Addresses layout table } by { Prim.hlevel props },
 }
 
-// The addresses of all copies' interleavers.
-pub fn table_of(l: Layout) -> [u16; 410]
-    requires { Slotted l }
-    ensures { result ≡ written (used_carriers l) (address l) (replicate 410 0) }
-{
-    let mut table = no_addresses();
-    address_interleaver::fill_table(
-        l.interleavers,
-        l.span,
-        l.step,
-        l.copies * l.interleavers,
-        &mut table,
-    );
-    table
-}
-
-// ---- the walk over the slots
-
-// Where a walk over the slots stands: a position of a copy, and the group that stands there.
+// A position of a copy, and the group that stands there.
 #[derive(Clone, Copy)]
-pub struct Slot {
+pub struct Place {
     pub copy: usize,
     pub position: usize,
     pub group: usize,
 }
 
-// The first slot of copy k.
-pub fn first_slot(l: Layout, k: usize) -> Slot
-    requires { (Slotted l) × (k ≤ l.copies) }
-    ensures { (Standing l result) × (slot_no l result ≡ k * l.symbols) }
-{
-    let n = l.symbols;
-    let by = k / l.run % n;
-    let up = n - by;
-    Slot {
-        copy: k,
-        position: 0,
-        group: up % n,
+// A slot in which a group of a copy stands. Its items run from `start` to `end`, and the group's are the first of them.
+#[derive(Clone, Copy)]
+pub struct Slot {
+    pub copy: usize,
+    pub group: usize,
+    pub start: usize,
+    pub end: usize,
+}
+
+impl Slots {
+    // The slots of a layout.
+    pub fn of(layout: Layout) -> Slots
+        requires { Slotted layout }
+        ensures { result.layout ≡ layout }
+    {
+        let mut table = [0u16; 410];
+        address_interleaver::fill_table(
+            layout.interleavers,
+            layout.span,
+            layout.step,
+            layout.copies * layout.interleavers,
+            &mut table,
+        );
+        Slots { layout, table }
+    }
+
+    // The carriers of a group, and its bits.
+    pub fn group_carriers(&self) -> usize
+        ensures { result ≡ group_carriers self.now.layout }
+    {
+        self.layout.interleavers * self.layout.span
+    }
+
+    pub fn group_bits(&self) -> usize
+        ensures { result ≡ group_bits self.now.layout }
+    {
+        self.group_carriers() * self.layout.bits
+    }
+
+    // The order of the carriers in a copy's slots.
+    pub fn order(&self, copy: usize) -> &[u16]
+        requires { copy < self.now.layout.copies }
+        ensures { Order self.now.layout copy result.now }
+    {
+        let size = self.group_carriers();
+        let first = copy * size;
+        &self.table[first..first + size]
+    }
+
+    // The first place of copy k.
+    fn first_place(&self, k: usize) -> Place
+        requires { k ≤ self.now.layout.copies }
+        ensures { (Standing self.now.layout result) × (slot_no self.now.layout result ≡ k * self.now.layout.symbols) }
+    {
+        let n = self.layout.symbols;
+        let by = k / self.layout.run % n;
+        let up = n - by;
+        Place {
+            copy: k,
+            position: 0,
+            group: up % n,
+        }
+    }
+
+    // The place after p.
+    fn place_after(&self, p: Place) -> Place
+        requires { (Standing self.now.layout p) × (p.copy < self.now.layout.copies) }
+        ensures { (Standing self.now.layout result) × (slot_no self.now.layout result ≡ slot_no self.now.layout p + 1) }
+    {
+        let symbols = self.layout.symbols;
+        let position = p.position + 1;
+        if position < symbols {
+            return Place {
+                copy: p.copy,
+                position,
+                group: address_interleaver::next_place(symbols, p.group),
+            };
+        }
+        self.first_place(p.copy + 1)
+    }
+
+    // All slots, by symbol.
+    pub fn walk(&self) -> Walk<'_>
+        ensures { (result.slots.now.layout ≡ self.now.layout) × (result.start ≡ 0) }
+    {
+        Walk {
+            slots: self,
+            place: self.first_place(0),
+            symbol: 0,
+            lane: 0,
+            start: 0,
+        }
     }
 }
 
-// The slot after s.
-pub fn next_slot(l: Layout, s: Slot) -> Slot
-    requires { (Slotted l) × (Standing l s) × (s.copy < l.copies) }
-    ensures { (Standing l result) × (slot_no l result ≡ slot_no l s + 1) }
-{
-    let position = s.position + 1;
-    if position < l.symbols {
-        return Slot {
-            copy: s.copy,
-            position,
-            group: address_interleaver::next_place(l.symbols, s.group),
-        };
+// A walk over the slots: the place of the next one, the symbol and the lane there, and its first item.
+#[derive(Drop)]
+pub struct Walk<'a> {
+    slots: &'a Slots,
+    place: Place,
+    symbol: usize,
+    lane: usize,
+    start: usize,
+    ghost walking: { Walking slots.now.layout place symbol lane start } by { Prim.hlevel props },
+}
+
+impl<'a> Walk<'a> {
+    // The walk after the next slot, which ends where that one starts.
+    fn after(&self) -> Walk<'a>
+        requires { self.now.symbol < self.now.slots.now.layout.symbols }
+        ensures same { result.slots.now.layout ≡ self.now.slots.now.layout }
+        ensures carries { Carries self.now.slots.now.layout (record { copy = self.now.place.copy; group = self.now.place.group; start = self.now.start; end = result.start }) }
+    {
+        let slots = self.slots;
+        let place = slots.place_after(self.place);
+        let lane = self.lane + 1;
+        if lane < slots.layout.copies {
+            return Walk {
+                slots,
+                place,
+                symbol: self.symbol,
+                lane,
+                start: self.start + slots.group_bits(),
+            };
+        }
+        let symbol = self.symbol + 1;
+        Walk {
+            slots,
+            place,
+            symbol,
+            lane: 0,
+            start: symbol * (slots.layout.carriers * slots.layout.bits),
+        }
     }
-    first_slot(l, s.copy + 1)
+}
+
+impl<'a> Iterator for Walk<'a> {
+    type Item = Slot;
+
+    ghost next_gives = { λ s r t. (t.slots.now.layout ≡ s.slots.now.layout) × Gives s.slots.now.layout s.start r t.start };
+
+    ghost remaining = { λ s. at_most (items_of s.slots.now.layout - s.start) };
+
+    fn next(&mut self) -> Option<Slot> {
+        if self.symbol == self.slots.layout.symbols {
+            return None;
+        }
+        let Place {
+            copy,
+            position: _,
+            group,
+        } = self.place;
+        let start = self.start;
+        *self = self.after();
+        Some(Slot {
+            copy,
+            group,
+            start,
+            end: self.start,
+        })
+    }
 }
 
 // ---- sending
 
-// The bits of a carrier, copied.
-pub fn copy_carrier(bits: usize, src: &[u8], from: usize, out: &mut [u8], to: usize)
-    requires { (CarrierBits bits) × (from + bits ≤ length src.now) × (to + bits ≤ length out.old) }
-    ensures { Copied bits src.now from to out.old out.new }
+// A carrier's bits, copied. Their number is a constant, so that the copy is one move.
+pub fn copy_carrier<const BITS: usize>(src: &[u8], from: usize, out: &mut [u8], to: usize)
+    requires { (from + BITS ≤ length src.now) × (to + BITS ≤ length out.old) }
+    ensures { Copied BITS src.now from to out.old out.new }
 {
-    if bits == 4 {
-        out[to] = src[from];
-        out[to + 1] = src[from + 1];
-        out[to + 2] = src[from + 2];
-        out[to + 3] = src[from + 3];
-        return;
-    }
-    if bits == 2 {
-        out[to] = src[from];
-        out[to + 1] = src[from + 1];
-        return;
-    }
-    out[to] = src[from];
-}
-
-// An address as an index.
-pub fn wide(x: u16) -> usize
-    ensures { result ≡ x }
-{
-    x as usize
+    out[to..to + BITS].copy_from_slice(&src[from..from + BITS]);
 }
 
 // The carriers of `src` in the given order, at the start of `out`.
+fn gather_by<const BITS: usize>(order: &[u16], src: &[u8], out: &mut [u8])
+    requires room { length order.now * BITS ≤ length out.old }
+    requires by_index { (p : ℕ) → p < length order.now → get_or order.now p 0 * BITS + BITS ≤ length src.now }
+    ensures { out.new ≡ written (length order.now * BITS) (taken BITS order.now src.now) out.old }
+{
+    for (p, &address) in order.iter().enumerate() {
+        copy_carrier::<BITS>(src, usize::from(address) * BITS, out, p * BITS);
+    }
+}
+
+// The same, of carriers with so many bits each.
 fn gather(bits: usize, order: &[u16], src: &[u8], out: &mut [u8])
     requires carrier_bits { (CarrierBits bits) × (length order.now ≤ 410) × (length order.now * bits ≤ length out.old) }
     requires by_index { (p : ℕ) → p < length order.now → get_or order.now p 0 * bits + bits ≤ length src.now }
     ensures { out.new ≡ written (length order.now * bits) (taken bits order.now src.now) out.old }
 {
-    let mut to: usize = 0;
-    let mut p: usize = 0;
-    while p < order.len() {
-        let from = wide(order[p]) * bits;
-        copy_carrier(bits, src, from, out, to);
-        to += bits;
-        p += 1;
+    match bits {
+        1 => gather_by::<1>(order, src, out),
+        2 => gather_by::<2>(order, src, out),
+        _ => gather_by::<4>(order, src, out),
     }
-}
-
-// Room for a group.
-pub fn no_group() -> [u8; 816]
-    ensures { result ≡ replicate 816 0 }
-{
-    [0u8; 816]
 }
 
 // A copy's last group: the rest of the data, and its pad.
@@ -135,7 +235,7 @@ fn last_group(from: usize, tail: usize, pad: usize, coded: &[u8]) -> [u8; 816]
     requires { (from ≤ length coded.now) × (tail + pad ≤ length coded.now) × (length coded.now < 65536) × (length coded.now + pad ≤ from + 816) }
     ensures { (length result ≡ 816) × (LastGroup from tail pad coded.now result) }
 {
-    let mut group = no_group();
+    let mut group = [0u8; 816];
     bits::put(&coded[from..], &mut group);
     let rest = coded.len() - from;
     let end = tail + pad;
@@ -143,62 +243,40 @@ fn last_group(from: usize, tail: usize, pad: usize, coded: &[u8]) -> [u8; 816]
     group
 }
 
-// The items of a slot in which group g of copy k stands.
-fn lay_slot(l: Layout, k: usize, g: usize, table: &[u16], coded: &[u8], out: &mut [u8])
-    requires { (Slotted l) × (k < l.copies) × (g < l.symbols) × (Addresses l table.now) × (length coded.now ≡ l.coded) × (group_bits l ≤ length out.old) }
-    ensures { out.new ≡ written (group_bits l) (λ i. get_or coded.now (slot_bit l k g i) 0) out.old }
+// The items of a slot's group.
+fn lay_group(slots: &Slots, slot: Slot, coded: &[u8], out: &mut [u8])
+    requires { (Carries slots.now.layout slot) × (length coded.now ≡ slots.now.layout.coded) × (group_bits slots.now.layout ≤ length out.old) }
+    ensures { out.new ≡ written (group_bits slots.now.layout) (λ i. get_or coded.now (slot_bit slots.now.layout slot.copy slot.group i) 0) out.old }
 {
-    let size = l.interleavers * l.span;
-    let first = k * size;
-    let end = first + size;
-    let group_bits = size * l.bits;
-    let from = g * group_bits;
-    let pad = l.pad;
+    let Layout { bits, pad, .. } = slots.layout;
+    let order = slots.order(slot.copy);
+    let group_bits = slots.group_bits();
+    let from = slot.group * group_bits;
     if from + group_bits <= coded.len() {
-        gather(l.bits, &table[first..end], &coded[from..], out);
+        gather(bits, order, &coded[from..], out);
         return;
     }
-    let last = last_group(from, k * pad, pad, coded);
-    gather(l.bits, &table[first..end], &last, out);
+    let last = last_group(from, slot.copy * pad, pad, coded);
+    gather(bits, order, &last, out);
 }
 
-// The items of symbol y, whose first slot is given; the answer is the slot after its last.
-fn lay_symbol(l: Layout, y: usize, first: Slot, table: &[u16], coded: &[u8], out: &mut [u8]) -> Slot
-    requires slotted { (Slotted l) × (y < l.symbols) × (Standing l first) × (slot_no l first ≡ y * l.copies) × (Addresses l table.now) }
-    requires coded_len { (length coded.now ≡ l.coded) × (symbol_items l ≤ length out.old) }
-    ensures walked { (Standing l result) × (slot_no l result ≡ (y + 1) * l.copies) }
-    ensures laid { out.new ≡ written (symbol_items l) (λ i. sent_on l (λ b. get_or coded.now b 0) (y * symbol_items l + i)) out.old }
+// The items of a slot: those of its group, and 0 on unused carriers.
+fn lay_slot(slots: &Slots, slot: Slot, coded: &[u8], out: &mut [u8])
+    requires { (Carries slots.now.layout slot) × (length coded.now ≡ slots.now.layout.coded) × (slot.end - slot.start ≤ length out.old) }
+    ensures { out.new ≡ written (slot.end - slot.start) (λ i. sent_on slots.now.layout (λ b. get_or coded.now b 0) (slot.start + i)) out.old }
 {
-    let group_bits = l.interleavers * l.span * l.bits;
-    let row = l.carriers * l.bits;
-    let copies = l.copies;
-    let mut s = first;
-    let mut j: usize = 0;
-    let mut n: usize = 0;
-    while j < copies {
-        lay_slot(l, s.copy, s.group, table, coded, &mut out[n..]);
-        s = next_slot(l, s);
-        n += group_bits;
-        j += 1;
-    }
-    bits::fill(row - n, 0, &mut out[n..]);
-    s
+    let used = slots.group_bits();
+    lay_group(slots, slot, coded, out);
+    bits::fill(slot.end - slot.start - used, 0, &mut out[used..]);
 }
 
-// All items, by symbol.
-fn lay_symbols(l: Layout, table: &[u16], coded: &[u8], out: &mut [u8])
-    requires { (Slotted l) × (Addresses l table.now) × (length coded.now ≡ l.coded) × (items_of l ≤ length out.old) }
-    ensures { out.new ≡ written (items_of l) (sent_on l (λ b. get_or coded.now b 0)) out.old }
+// All items, slot by slot.
+fn lay_slots(slots: &Slots, coded: &[u8], out: &mut [u8])
+    requires { (length coded.now ≡ slots.now.layout.coded) × (items_of slots.now.layout ≤ length out.old) }
+    ensures { out.new ≡ written (items_of slots.now.layout) (sent_on slots.now.layout (λ b. get_or coded.now b 0)) out.old }
 {
-    let row = l.carriers * l.bits;
-    let symbols = l.symbols;
-    let mut s = first_slot(l, 0);
-    let mut n: usize = 0;
-    let mut y: usize = 0;
-    while y < symbols {
-        s = lay_symbol(l, y, s, table, coded, &mut out[n..]);
-        n += row;
-        y += 1;
+    for slot in slots.walk() {
+        lay_slot(slots, slot, coded, &mut out[slot.start..]);
     }
 }
 
@@ -222,6 +300,5 @@ pub fn lay_out(l: Layout, coded: &[u8], out: &mut [u8])
         lay_once(l, coded, out);
         return;
     }
-    let table = table_of(l);
-    lay_symbols(l, &table, coded, out);
+    lay_slots(&Slots::of(l), coded, out);
 }

@@ -4,15 +4,15 @@ use mathlib.Core.Bool.{Bool, cond}
 use Prim.Native.Nat.{ℕ, ◌+◌, ◌-◌, ◌*◌, ◌/◌, ◌%◌, ◌<◌, ◌≤◌}
 use native.Mathlib.Nat.{mul-le-mul, mul-le-mul_left, mul-pos, mul-zero, one-mul, add-mul, div-one, div-le_self, mul-div_cancel, mod-lt, div-eq_of_lt, div-add-mod, div-add-mod'}
 use native.Mathlib.Omega.{arith}
-use lib.Arith.{digits_div}
 use lib.Dec.{eqb, leb}
-use lib.ListN.{get_or}
 use borrow.Author.Tests.{eq-eqb, ne_eqb}
+use Rattle.std.specs.Int.{div_ceil}
+use Rattle.std.proofs.lemmas.Grind.{div_ceil_times}
 use Rattle.bits.proofs.BoolLaws.{test-cases}
 use Rattle.bits.proofs.NumberLaws.{lt-cases}
 use Rattle.card.specs.Card.{copy_code}
 use Rattle.payload_layout.specs.declared.Layout.{Layout}
-use Rattle.payload_layout.specs.Layouts.{inter_num, inter_num_per_group, all_interleavers, span_of, used_of, group_of, last_symbol_bits, last_group_bits, pad_bits, shift_run, rounded_down, shift_step, layout_by, layout_for}
+use Rattle.payload_layout.specs.Layouts.{all_interleavers, group_interleavers, span_of, used_of, group_of, last_symbol_bits, last_group_bits, pad_bits, shift_run, rounded_down, shift_step, layout_by, layout_for}
 use Rattle.payload_layout.proofs.SectionLaws.{one-interleaver, one-a-group}
 use Rattle.payload_layout.proofs.SectionLaws as section
 
@@ -29,13 +29,13 @@ same_layout carriers bits coded copies y p r n s t =
 
 module _ (S D : ℕ) (pos : 0 < S) where
   abbrev symbols : ℕ
-  symbols = (D + S - 1) / S
+  symbols = div_ceil D S
 
   pub symbols-hold : D ≤ symbols * S
-  symbols-hold = omega (arith, div-add-mod' (D + S - 1) S, mod-lt (D + S - 1) pos)
+  symbols-hold = (div_ceil_times D S pos).0
 
   pub symbols-tight : symbols * S < D + S
-  symbols-tight = omega (arith, div-add-mod' (D + S - 1) S)
+  symbols-tight = (div_ceil_times D S pos).1
 
   pub pad-is : symbols * S - D ≡ pad_bits S S D
   unfolding pad_bits last_group_bits
@@ -43,15 +43,13 @@ module _ (S D : ℕ) (pos : 0 < S) where
     where
       none : D % S ≤ 0 → symbols * S - D ≡ S - cond (eqb (D % S) 0) S (D % S - S * ((D % S - 1) / S))
       none l =
-          let whole : D + S - 1 ≡ D / S * S + (S - 1) = omega (arith, div-add-mod' D S) in
-          let q : symbols ≡ D / S = ap (λ (k : ℕ). k / S) whole ∙ digits_div (D / S) (let l : S - 1 < S = omega arith in l) in
+          let q : symbols ≡ D / S = omega arith in
           rw (eq-eqb (D % S) 0 (omega arith)) (omega (arith, ap (λ (k : ℕ). k * S) q, div-add-mod' D S))
 
       rest : 0 < D % S → symbols * S - D ≡ S - cond (eqb (D % S) 0) S (D % S - S * ((D % S - 1) / S))
       rest l =
           let r = mod-lt D pos in
-          let whole : D + S - 1 ≡ (D / S + 1) * S + (D % S - 1) = omega (arith, div-add-mod' D S, add-mul (D / S) 1 S) in
-          let q : symbols ≡ D / S + 1 = ap (λ (k : ℕ). k / S) whole ∙ digits_div (D / S + 1) (let l : D % S - 1 < S = omega arith in l) in
+          let q : symbols ≡ D / S + 1 = omega arith in
           let zero-div : (D % S - 1) / S ≡ 0 = div-eq_of_lt (omega arith) in
           rw (ne_eqb (D % S) 0 (λ e. omega arith), zero-div, mul-zero S) (omega (arith, ap (λ (k : ℕ). k * S) q, div-add-mod' D S, add-mul (D / S) 1 S))
 
@@ -81,9 +79,9 @@ pub one-made : (carriers bits coded : ℕ) → 0 < bits * carriers
     → ◌≡◌ {A = Layout} (record {
       carriers = carriers;
       bits = bits;
-      symbols = (coded + bits * carriers - 1) / (bits * carriers);
+      symbols = div_ceil coded (bits * carriers);
       coded = coded;
-      pad = (coded + bits * carriers - 1) / (bits * carriers) * (bits * carriers) - coded;
+      pad = div_ceil coded (bits * carriers) * (bits * carriers) - coded;
       copies = 1;
       run = 1;
       interleavers = 1;
@@ -94,9 +92,9 @@ unfolding layout_for layout_by shift_step
 one-made carriers bits coded pos =
     let O : bits * carriers ≡ bits * used_of carriers 1 = ap (λ (k : ℕ). bits * k) (sym (one-used carriers)) in
     let G : bits * carriers ≡ bits * group_of carriers 1 = ap (λ (k : ℕ). bits * k) (sym (one-group carriers)) in
-    let pad : (coded + bits * carriers - 1) / (bits * carriers) * (bits * carriers) - coded ≡ pad_bits (bits * used_of carriers 1) (bits * group_of carriers 1) coded =
+    let pad : div_ceil coded (bits * carriers) * (bits * carriers) - coded ≡ pad_bits (bits * used_of carriers 1) (bits * group_of carriers 1) coded =
     pad-is (bits * carriers) coded pos ∙ ap₂ (λ (o g : ℕ). pad_bits o g coded) O G in
-    let symbols : (coded + bits * carriers - 1) / (bits * carriers) ≡ (coded + pad_bits (bits * used_of carriers 1) (bits * group_of carriers 1) coded) / (bits * group_of carriers 1) =
+    let symbols : div_ceil coded (bits * carriers) ≡ (coded + pad_bits (bits * used_of carriers 1) (bits * group_of carriers 1) coded) / (bits * group_of carriers 1) =
     symbols-are (bits * carriers) coded pos ∙ ap₂ (λ (o g : ℕ). (coded + pad_bits o g coded) / g) O G in
     let run = sym (one-run (last_symbol_bits (bits * used_of carriers 1) coded) (bits * group_of carriers 1)) in
     same_layout carriers bits coded 1 symbols pad run (sym one-a-group) (sym (one_span carriers)) refl
@@ -123,10 +121,9 @@ module _ (carriers bits copies : ℕ) (is : copy_code copies < 6) (enough : all_
   unfolding group_of
   group-lt = omega (arith, symbol-lt, mul-le-mul_left bits (div-le_self (used_of carriers copies) copies))
 
--- the layout that the function makes is the section's, where the code is that of the copies
-pub copied-made : (carriers bits copies coded code group last run step : ℕ) → code ≡ copy_code copies → (copies ≡ 1 → ⊥)
-    → let all : ℕ = get_or inter_num code 0 in
-    let used : ℕ = all * (carriers / all) in
+-- the layout that the function makes is the section's, where the interleavers are those of the copies
+pub copied-made : (carriers bits copies coded all per group last run step : ℕ) → all ≡ all_interleavers copies → per ≡ group_interleavers copies → (copies ≡ 1 → ⊥)
+    → let used : ℕ = all * (carriers / all) in
     group ≡ last_group_bits (bits * used) (bits * (used / copies)) coded → last ≡ last_symbol_bits (bits * used) coded
     → run ≡ shift_run copies last (bits * (used / copies)) → step ≡ rounded_down (carriers / all / (2 * all))
     → ◌≡◌ {A = Layout} (record {
@@ -137,23 +134,22 @@ pub copied-made : (carriers bits copies coded code group last run step : ℕ) �
       pad = bits * (used / copies) - group;
       copies = copies;
       run = run;
-      interleavers = get_or inter_num_per_group code 0;
+      interleavers = per;
       span = carriers / all;
       step = step;
     }) (layout_for carriers bits copies coded)
 unfolding layout_for layout_by pad_bits used_of group_of span_of shift_step
-copied-made carriers bits copies coded code group last run step c more g l r t =
-    let all : ℕ → ℕ = λ code. get_or inter_num code 0 in
-    let O : ℕ → ℕ = λ code. bits * (all code * (carriers / all code)) in
-    let G : ℕ → ℕ = λ code. bits * (all code * (carriers / all code) / copies) in
-    let pad : G code - group ≡ G (copy_code copies) - last_group_bits (O (copy_code copies)) (G (copy_code copies)) coded =
-    ap (λ (k : ℕ). G code - k) g ∙ ap (λ (k : ℕ). G k - last_group_bits (O k) (G k) coded) c in
-    let symbols : (coded + (G code - group)) / G code
-    ≡ (coded + (G (copy_code copies) - last_group_bits (O (copy_code copies)) (G (copy_code copies)) coded)) / G (copy_code copies) =
-    ap₂ (λ (p k : ℕ). (coded + p) / G k) pad c in
-    let run' : run ≡ shift_run copies (last_symbol_bits (O (copy_code copies)) coded) (G (copy_code copies)) =
-    r ∙ ap (λ (k : ℕ). shift_run copies k (G code)) l ∙ ap (λ (k : ℕ). shift_run copies (last_symbol_bits (O k) coded) (G k)) c in
-    let rounded : ℕ → ℕ = λ code. rounded_down (carriers / all code / (2 * all code)) in
-    let step' : step ≡ cond (eqb copies 1) 0 (rounded (copy_code copies)) =
-    t ∙ ap rounded c ∙ sym (ap (λ (b : Bool). cond b 0 (rounded (copy_code copies))) (ne_eqb copies 1 more)) in
-    same_layout carriers bits coded copies symbols pad run' (ap (λ (k : ℕ). get_or inter_num_per_group k 0) c) (ap (λ (k : ℕ). carriers / all k) c) step'
+copied-made carriers bits copies coded all per group last run step a p more g l r t =
+    let O : ℕ → ℕ = λ n. bits * (n * (carriers / n)) in
+    let G : ℕ → ℕ = λ n. bits * (n * (carriers / n) / copies) in
+    let of : ℕ = all_interleavers copies in
+    let pad : G all - group ≡ G of - last_group_bits (O of) (G of) coded =
+    ap (λ (k : ℕ). G all - k) g ∙ ap (λ (k : ℕ). G k - last_group_bits (O k) (G k) coded) a in
+    let symbols : (coded + (G all - group)) / G all ≡ (coded + (G of - last_group_bits (O of) (G of) coded)) / G of =
+    ap₂ (λ (p k : ℕ). (coded + p) / G k) pad a in
+    let run' : run ≡ shift_run copies (last_symbol_bits (O of) coded) (G of) =
+    r ∙ ap (λ (k : ℕ). shift_run copies k (G all)) l ∙ ap (λ (k : ℕ). shift_run copies (last_symbol_bits (O k) coded) (G k)) a in
+    let rounded : ℕ → ℕ = λ n. rounded_down (carriers / n / (2 * n)) in
+    let step' : step ≡ cond (eqb copies 1) 0 (rounded of) =
+    t ∙ ap rounded a ∙ sym (ap (λ (b : Bool). cond b 0 (rounded of)) (ne_eqb copies 1 more)) in
+    same_layout carriers bits coded copies symbols pad run' p (ap (λ (k : ℕ). carriers / k) a) step'

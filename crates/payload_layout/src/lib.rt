@@ -6,13 +6,25 @@
 ghost use Rattle.std.specs.Prelude.{◌≡◌, ◌<◌, ◌≤◌};
 ghost use Rattle.card.specs.Card.{copy_code};
 ghost use Rattle.bands.specs.Bands.{band_count};
-ghost use Rattle.payload_layout.specs.Layouts.{all_interleavers, last_symbol_bits, last_group_bits, shift_run, rounded_down, layout_for, layout_of, items as items_of};
+ghost use Rattle.payload_layout.specs.Layouts.{all_interleavers, group_interleavers, last_symbol_bits, last_group_bits, shift_run, rounded_down, layout_for, layout_of, items as items_of};
 ghost use Rattle.payload_layout.specs.Loops.Bounds.{Laid};
 
-// Table 13 of source 000, by copy code, with a column for one copy: the interleavers of all copies, and of a group.
-const ALL_INTERLEAVERS: [usize; 6] = [1, 8, 8, 10, 14, 11];
+// A column of Table 13 of source 000: the interleavers of all copies, and of a group.
+#[derive(Clone, Copy)]
+struct Interleavers {
+    all: usize,
+    group: usize,
+}
 
-const GROUP_INTERLEAVERS: [usize; 6] = [1, 4, 2, 2, 2, 1];
+// Table 13 by copy code, with a column for one copy.
+const INTERLEAVERS: [Interleavers; 6] = [
+    Interleavers { all: 1, group: 1 },
+    Interleavers { all: 8, group: 4 },
+    Interleavers { all: 8, group: 2 },
+    Interleavers { all: 10, group: 2 },
+    Interleavers { all: 14, group: 2 },
+    Interleavers { all: 11, group: 1 },
+];
 
 // The numbers of a payload's layout.
 #[derive(Clone, Copy)]
@@ -33,66 +45,66 @@ pub struct Layout {
     pub step: usize,
 }
 
+// The column for so many copies.
+fn column(copies: usize) -> Interleavers
+    requires { copy_code copies < 6 }
+    ensures { (result.all ≡ all_interleavers copies) × (result.group ≡ group_interleavers copies) }
+{
+    INTERLEAVERS[card::copy_code(copies as u64) as usize]
+}
+
 // The coded bits in the last symbol, where each has `symbol` of them.
+#[tactic(auto, unfolding(crate::specs::Layouts::last_symbol_bits))]
 fn last_symbol_bits(symbol: usize, coded: usize) -> usize
     requires { 0 < symbol }
     ensures { result ≡ last_symbol_bits symbol coded }
 {
-    let rest = coded % symbol;
-    if rest == 0 { symbol } else { rest }
+    match coded % symbol {
+        0 => symbol,
+        rest => rest,
+    }
 }
 
 // The coded bits in the last group, where each has `group` of them.
+#[tactic(auto, unfolding(crate::specs::Layouts::last_group_bits))]
 fn last_group_bits(symbol: usize, group: usize, coded: usize) -> usize
     requires { (0 < symbol) × (0 < group) }
     ensures { (result ≡ last_group_bits symbol group coded) × (result ≤ group) }
 {
-    let rest = coded % symbol;
-    if rest == 0 {
-        group
-    } else {
-        rest - group * ((rest - 1) / group)
+    match coded % symbol {
+        0 => group,
+        rest => rest - group * ((rest - 1) / group),
     }
 }
 
 // How many copies in a row have one shift, with so many bits in the last symbol.
+#[tactic(auto, unfolding(crate::specs::Layouts::shift_run))]
 fn shift_run(copies: usize, last: usize, group: usize) -> usize
     requires { (0 < copies) × (copies ≤ 11) × (group < 65536) }
     ensures { result ≡ shift_run copies last group }
 {
-    if copies != 4 {
-        return if last <= (copies - 1) * group {
-            copies
-        } else {
-            1
-        };
+    match copies {
+        4 if last <= group => 4,
+        4 if last <= 2 * group => 2,
+        4 if last <= 3 * group => 4,
+        4 => 1,
+        _ if last <= (copies - 1) * group => copies,
+        _ => 1,
     }
-    if last <= group {
-        return 4;
-    }
-    if last <= 2 * group {
-        return 2;
-    }
-    if last <= 3 * group { 4 } else { 1 }
 }
 
 // The step of addresses by the listing's cases: rounded down to 0 or a power of two. It has none from 16 on, and no band comes there.
 fn rounded_down(s: usize) -> usize
     ensures { result ≡ rounded_down s }
 {
-    if s < 1 {
-        return 0;
+    match s {
+        0 => 0,
+        1 => 1,
+        2..=3 => 2,
+        4..=7 => 4,
+        8..=15 => 8,
+        _ => s,
     }
-    if s < 2 {
-        return 1;
-    }
-    if s < 4 {
-        return 2;
-    }
-    if s < 8 {
-        return 4;
-    }
-    if s < 16 { 8 } else { s }
 }
 
 // One copy: the coded bits in order, and the last symbol filled. One division where the section's arithmetic takes several.
@@ -101,7 +113,7 @@ fn one_copy(carriers: usize, bits: usize, coded: usize) -> Layout
     ensures { result ≡ layout_for carriers bits 1 coded }
 {
     let symbol = bits * carriers;
-    let symbols = (coded + symbol - 1) / symbol;
+    let symbols = coded.div_ceil(symbol);
     Layout {
         carriers,
         bits,
@@ -122,8 +134,7 @@ fn copied(carriers: usize, bits: usize, copies: usize, coded: usize) -> Layout
     requires copies_bound { (copy_code copies < 6) × (1 < copies) × (all_interleavers copies ≤ carriers) }
     ensures { result ≡ layout_for carriers bits copies coded }
 {
-    let code = card::copy_code(copies as u64) as usize;
-    let all = ALL_INTERLEAVERS[code];
+    let Interleavers { all, group } = column(copies);
     let span = carriers / all;
     let used = all * span;
     let symbol_bits = bits * used;
@@ -138,7 +149,7 @@ fn copied(carriers: usize, bits: usize, copies: usize, coded: usize) -> Layout
         pad,
         copies,
         run,
-        interleavers: GROUP_INTERLEAVERS[code],
+        interleavers: group,
         span,
         step: rounded_down(span / (2 * all)),
     }
@@ -158,6 +169,7 @@ pub fn layout_of(band: usize, modulation: usize, copies: usize, coded: usize) ->
 }
 
 // The items of a layout.
+#[tactic(auto, unfolding(crate::specs::Layouts::items))]
 pub fn item_count(l: Layout) -> usize
     requires { Laid l }
     ensures { result ≡ items_of l }

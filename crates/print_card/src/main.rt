@@ -15,9 +15,9 @@ fn main(rt: HostRuntime) -> io::Result<()> {
         return Ok(());
     }
     let mut input = [0u8; 16];
-    let n = command::read_start(&mut rt.stdin(), &mut input);
+    let card = command::read_start(&mut rt.stdin(), &mut input);
     let mut text = [0u8; printed_card::LONGEST];
-    let Ok(len) = printed_card::card_text(&input[..n], &mut text) else {
+    let Ok(len) = printed_card::card_text(card, &mut text) else {
         return Ok(());
     };
     command::put_first(&rt, &text, len)

@@ -3,11 +3,12 @@
 // Internal: nothing here is a public entry.
 #![tactic(auto)]
 
-ghost use Rattle.std.specs.Prelude.{◌≡◌, ◌&&◌, ◌+◌, ◌<◌, eqb, length, take};
+ghost use Rattle.std.specs.Prelude.{◌≡◌, Bool, ◌&&◌, List, ℕ, ◌+◌, ◌/◌, ◌<◌, eqb, length};
 ghost use Rattle.std.specs.Float.Ieee.{nan_bits, of_bits};
 ghost use Rattle.std.specs.Float.{binary64};
+ghost use Rattle.bits.specs.Ranges.{all_below};
 ghost use Rattle.refusal.specs.Report.{answer};
-ghost use Rattle.record.specs.Expected.{byte_at, most, most_bytes, most_words, word_at, has_bits, same_byte, same_word, same_float, holds_bytes, holds_words, holds_floats, compared as compared_with};
+ghost use Rattle.record.specs.Expected.{byte_at, most, word_at, has_bits, same_byte, same_word, same_float, holds, compared as compared_with};
 
 use refusal::Refusal;
 
@@ -39,14 +40,6 @@ pub struct Given {
     pub agrees: bool,
 }
 
-// The first n bytes, or all where there are fewer.
-pub fn start(s: &[u8], n: u64) -> &[u8]
-    ensures { result.now ≡ take n s.now }
-{
-    let count = n as usize;
-    if count < s.len() { &s[..count] } else { s }
-}
-
 // Byte i of some bytes, and of an untouched output beyond them.
 pub fn byte_at(s: &[u8], i: usize) -> u8
     ensures { result ≡ byte_at s.now i }
@@ -58,10 +51,7 @@ pub fn byte_at(s: &[u8], i: usize) -> u8
 pub fn word_at(s: &[u8], at: usize) -> u64
     ensures { result ≡ word_at s.now at }
 {
-    if s.len() < 8 {
-        return UNTOUCHED_WORD;
-    }
-    if s.len() - 8 < at {
+    if s.len() < 8 || s.len() - 8 < at {
         return UNTOUCHED_WORD;
     }
     bits::number_at(s, at, 8)
@@ -71,10 +61,7 @@ pub fn word_at(s: &[u8], at: usize) -> u64
 fn is_nan(bits: u64) -> bool
     ensures { result ≡ nan_bits binary64 bits }
 {
-    if bits % 9223372036854775808 / 4503599627370496 != 2047 {
-        return false;
-    }
-    bits % 4503599627370496 != 0
+    bits % 9223372036854775808 / 4503599627370496 == 2047 && bits % 4503599627370496 != 0
 }
 
 // The float of some bits. All NaNs are one.
@@ -82,134 +69,141 @@ pub fn float_of(bits: u64) -> f64
     ensures { result ≡ of_bits binary64 bits }
 {
     if is_nan(bits) {
-        0.0 / 0.0
+        f64::NAN
     } else {
         f64::from_bits(bits)
     }
-}
-
-// Untouched outputs of bytes, words and floats.
-pub fn untouched_bytes() -> [u8; MOST_BYTES]
-    ensures { (result ≡ most most_bytes 165) × (most_bytes ≡ length result) }
-{
-    [UNTOUCHED; MOST_BYTES]
-}
-
-pub fn untouched_words() -> [u64; MOST_WORDS]
-    ensures { (result ≡ most most_words 11936128518282651045) × (most_words ≡ length result) }
-{
-    [UNTOUCHED_WORD; MOST_WORDS]
-}
-
-pub fn untouched_floats() -> [f64; MOST_WORDS]
-    ensures { (result ≡ most most_words (of_bits binary64 11936128518282651045)) × (most_words ≡ length result) }
-{
-    [float_of(UNTOUCHED_WORD); MOST_WORDS]
 }
 
 // Whether a float is no NaN, and has some bits.
 fn has_bits(x: f64, bits: u64) -> bool
     ensures { result ≡ has_bits x bits }
 {
-    if x == x {
-        f64::to_bits(x) == bits
-    } else {
-        false
+    x == x && x.to_bits() == bits
+}
+
+// What an output is made of: bytes, words, or floats, which are expected by their bits.
+pub trait Element: Copy {
+    ghost untouched: { Self };
+
+    ghost count: { ℕ → ℕ };
+
+    ghost same: { List Self → List ℕ → ℕ → Bool };
+
+    // What each element of an output is before a call.
+    fn untouched() -> Self
+        ensures { result ≡ untouched };
+
+    // How many elements some expected bytes are.
+    fn count(expected: &[u8]) -> usize
+        ensures { result ≡ count (length expected.now) };
+
+    // Whether element i of an output is as expected.
+    fn same(out: &[Self], expected: &[u8], i: usize) -> bool
+        requires { i < length out.now }
+        ensures { result ≡ same out.now expected.now i };
+}
+
+impl Element for u8 {
+    ghost untouched = { 165 };
+
+    ghost count = { λ n. n };
+
+    ghost same = { same_byte };
+
+    fn untouched() -> u8 {
+        UNTOUCHED
+    }
+
+    fn count(expected: &[u8]) -> usize {
+        expected.len()
+    }
+
+    fn same(out: &[u8], expected: &[u8], i: usize) -> bool {
+        out[i] == byte_at(expected, i)
     }
 }
 
-// Whether element i of an output is as expected: a byte, a word, or a float by its bits.
-fn same_byte(out: &[u8], expected: &[u8], i: usize) -> bool
-    requires { i < length out.now }
-    ensures { result ≡ same_byte out.now expected.now i }
-{
-    out[i] == byte_at(expected, i)
-}
+impl Element for u64 {
+    ghost untouched = { 11936128518282651045 };
 
-fn same_word(out: &[u64], expected: &[u8], i: usize) -> bool
-    requires { i < length out.now }
-    ensures { result ≡ same_word out.now expected.now i }
-{
-    out[i] == word_at(expected, 8 * i)
-}
+    ghost count = { λ n. n / 8 };
 
-fn same_float(out: &[f64], expected: &[u8], i: usize) -> bool
-    requires { i < length out.now }
-    ensures { result ≡ same_float out.now expected.now i }
-{
-    has_bits(out[i], word_at(expected, 8 * i))
-}
+    ghost same = { same_word };
 
-// Whether an output has what is expected at its start and is untouched beyond: of bytes, words and floats.
-pub fn holds_bytes(out: &[u8], expected: &[u8]) -> bool
-    ensures { result ≡ holds_bytes out.now expected.now }
-{
-    let mut i: usize = 0;
-    while i < out.len() {
-        if !same_byte(out, expected, i) {
-            return false;
-        }
-        i += 1;
+    fn untouched() -> u64 {
+        UNTOUCHED_WORD
     }
-    expected.len() <= out.len()
+
+    fn count(expected: &[u8]) -> usize {
+        expected.len() / 8
+    }
+
+    fn same(out: &[u64], expected: &[u8], i: usize) -> bool {
+        out[i] == word_at(expected, 8 * i)
+    }
 }
 
-pub fn holds_words(out: &[u64], expected: &[u8]) -> bool
-    ensures { result ≡ holds_words out.now expected.now }
-{
-    let mut i: usize = 0;
-    while i < out.len() {
-        if !same_word(out, expected, i) {
-            return false;
-        }
-        i += 1;
+impl Element for f64 {
+    ghost untouched = { of_bits binary64 11936128518282651045 };
+
+    ghost count = { λ n. n / 8 };
+
+    ghost same = { same_float };
+
+    fn untouched() -> f64 {
+        float_of(UNTOUCHED_WORD)
     }
-    expected.len() / 8 <= out.len()
+
+    fn count(expected: &[u8]) -> usize {
+        expected.len() / 8
+    }
+
+    fn same(out: &[f64], expected: &[u8], i: usize) -> bool {
+        has_bits(out[i], word_at(expected, 8 * i))
+    }
 }
 
-pub fn holds_floats(out: &[f64], expected: &[u8]) -> bool
-    ensures { result ≡ holds_floats out.now expected.now }
+// An untouched output.
+#[tactic(auto, unfolding(crate::specs::Expected::most))]
+pub fn untouched<T: Element, const N: usize>() -> [T; N]
+    ensures { (result ≡ most N T.untouched) × (N ≡ length result) }
 {
-    let mut i: usize = 0;
-    while i < out.len() {
-        if !same_float(out, expected, i) {
-            return false;
-        }
-        i += 1;
-    }
-    expected.len() / 8 <= out.len()
+    [T::untouched(); N]
+}
+
+// Whether each element of an output is as expected.
+fn all_same<T: Element>(out: &[T], expected: &[u8]) -> bool
+    ensures { result ≡ all_below (length out.now) (T.same out.now expected.now) }
+{
+    (0..out.len()).all(|i| T::same(out, expected, i))
+}
+
+// Whether an output has what is expected at its start and is untouched beyond.
+pub fn holds<T: Element>(out: &[T], expected: &[u8]) -> bool
+    ensures { result ≡ holds (length out.now) (T.count (length expected.now)) (T.same out.now expected.now) }
+{
+    all_same(out, expected) && T::count(expected) <= out.len()
 }
 
 // Whether three numbers are the expected number and value, and 0.
 fn are_expected(number: u64, value: u64, second: u64, r: Record) -> bool
     ensures { result ≡ eqb number r.number && eqb value r.value && eqb second 0 }
 {
-    if number != r.number {
-        return false;
-    }
-    if value != r.value {
-        return false;
-    }
-    second == 0
+    number == r.number && value == r.value && second == 0
 }
 
 // What a call gave, by its answer and whether its output is as expected.
+#[tactic(auto, unfolding(crate::specs::Expected::compared))]
 pub fn compared(a: Result<usize, Refusal>, r: Record, held: bool) -> Given
     ensures { result ≡ compared_with r (answer a) held }
 {
     let mut values = [UNTOUCHED_WORD; 2];
     let number = refusal::report(a, &mut values) as u64;
-    let value = values[0];
-    if are_expected(number, value, values[1], r) {
-        return Given {
-            number,
-            value,
-            agrees: held,
-        };
-    }
+    let [value, second] = values;
     Given {
         number,
         value,
-        agrees: false,
+        agrees: are_expected(number, value, second, r) && held,
     }
 }

@@ -71,14 +71,14 @@ fn bytes_given(r: Record, card: &[u8], input: &[u8], expected: &[u8], out: &mut 
     ensures { result ≡ judged r (bytes_outcome r.call card.now input.now out.old) (λ o. holds_bytes o expected.now) }
 {
     let answer = call(r.call, card, input, out);
-    record::compared(answer, r, record::holds_bytes(out, expected))
+    record::compared(answer, r, record::holds(out, expected))
 }
 
 fn fields_given(r: Record, card: &[u8], expected: &[u8], out: &mut [u64]) -> Given
     ensures { result ≡ judged r (read_fields card.now out.old) (λ o. holds_words o expected.now) }
 {
     let answer = card::read_fields(card, out);
-    record::compared(answer, r, record::holds_words(out, expected))
+    record::compared(answer, r, record::holds(out, expected))
 }
 
 fn point_given(r: Record, card: &[u8], input: &[u8], expected: &[u8], out: &mut [f64]) -> Given
@@ -86,7 +86,7 @@ fn point_given(r: Record, card: &[u8], input: &[u8], expected: &[u8], out: &mut 
 {
     let modulation = record::byte_at(card, 0);
     let answer = constellation::map_into(modulation as u64, input, out);
-    record::compared(answer, r, record::holds_floats(out, expected))
+    record::compared(answer, r, record::holds(out, expected))
 }
 
 // The room of a record, at most that of an untouched output.
@@ -106,14 +106,14 @@ pub fn run(r: Record, card: &[u8], input: &[u8], expected: &[u8]) -> Given
 {
     let room = room_of(r, record::MOST_WORDS);
     if r.call == 4 {
-        let mut out = record::untouched_words();
+        let mut out: [u64; record::MOST_WORDS] = record::untouched();
         return fields_given(r, card, expected, &mut out[..room]);
     }
     if r.call == 6 {
-        let mut out = record::untouched_floats();
+        let mut out: [f64; record::MOST_WORDS] = record::untouched();
         return point_given(r, card, input, expected, &mut out[..room]);
     }
     let room = room_of(r, record::MOST_BYTES);
-    let mut out = record::untouched_bytes();
+    let mut out: [u8; record::MOST_BYTES] = record::untouched();
     bytes_given(r, card, input, expected, &mut out[..room])
 }

@@ -9,80 +9,129 @@
 // bounds alone, and of what is written nothing (D24). A function that writes answers an error where a write fails.
 #![tactic(auto)]
 
-ghost use Rattle.std.specs.Prelude.{◌≡◌, true, ◌≤◌, length};
+ghost use Rattle.std.specs.Prelude.{◌≡◌, ◌≤◌, length};
 ghost use Rattle.record_file.specs.Reading.{serves, AtMost, Whole};
 
 use record::Record;
-use std::io;
 use std::io::Read;
+use std::{fmt, io};
 
-// The lengths of a record's bytes.
+// A record, and the bytes of its parts.
 #[derive(Clone, Copy)]
-pub struct Lengths {
-    pub label: u64,
-    pub card: u64,
-    pub input: u64,
-    pub output: u64,
+pub struct Entry<'a> {
+    pub head: Record,
+    pub label: &'a [u8],
+    pub card: &'a [u8],
+    pub input: &'a [u8],
+    pub expected: &'a [u8],
 }
 
-// What stands next in the file.
-#[derive(Clone, Copy)]
-pub enum Next {
-    Of(Record, Lengths),
-    End,
-    Broken,
+// The file breaks off or cannot be read, has more bytes than there is room for, or has a card that does not serve its call.
+#[derive(Clone, Copy, Debug)]
+pub struct Broken;
+
+impl From<io::Error> for Broken {
+    fn from(_why: io::Error) -> Broken {
+        Broken
+    }
 }
 
-// A number that stands next in the file; none where the file breaks off.
-#[derive(Clone, Copy)]
-enum Number {
-    Of(u64),
-    Missing,
+// How many records there were, and how many of them gave something else than they expect.
+#[derive(Clone, Copy, Default)]
+pub struct Count {
+    records: u64,
+    mismatches: u64,
 }
 
-// The number in eight bytes, the highest first.
-fn big_endian(bytes: [u8; 8]) -> u64 {
-    record::word_at(&bytes, 0)
+impl Count {
+    // Counts a record. No count comes near to wrapping.
+    fn add(&mut self, agrees: bool) {
+        self.records = self.records.wrapping_add(1);
+        if !agrees {
+            self.mismatches = self.mismatches.wrapping_add(1);
+        }
+    }
 }
 
-// Reads a number of `width` bytes. A file that cannot be read on breaks off.
-fn read_number(file: &mut impl Read, width: usize) -> Number
+impl fmt::Display for Count {
+    fn fmt<W: fmt::Write>(&self, f: &mut fmt::Formatter<W>) -> fmt::Result {
+        let records = self.records;
+        let mismatches = self.mismatches;
+        write!(f, "{records} records, {mismatches} mismatches")
+    }
+}
+
+// The names of the calls, by their numbers.
+const CALLS: [&str; 10] = [
+    "fc_send",
+    "fc_read",
+    "payload_send",
+    "payload_read",
+    "card_read",
+    "card_text",
+    "map",
+    "slice",
+    "card_write",
+    "card_move",
+];
+
+// The counts of each call, and of all.
+#[derive(Clone, Copy, Default)]
+pub struct Counts {
+    calls: [Count; 10],
+    all: Count,
+}
+
+impl Counts {
+    // Counts a record of a call.
+    pub fn add(&mut self, call: u64, agrees: bool) {
+        if let Some(count) = self.calls.get_mut(call as usize) {
+            count.add(agrees);
+            self.all.add(agrees);
+        }
+    }
+
+    // A line for each call, and one for all.
+    pub fn print(&self, rt: &impl Print) -> io::Result<()> {
+        for (name, count) in CALLS.iter().zip(&self.calls) {
+            println!(rt; "{name} {count}")?;
+        }
+        rt.println(self.all)
+    }
+}
+
+// Reads a number of `width` bytes.
+fn read_number(file: &mut impl Read, width: usize) -> Result<u64, Broken>
     requires { width ≤ 8 }
 {
     let mut bytes = [0u8; 8];
-    let from = 8 - width;
-    if file.read_exact(&mut bytes[from..]).is_err() {
-        return Number::Missing;
-    }
-    Number::Of(big_endian(bytes))
+    file.read_exact(&mut bytes[8 - width..])?;
+    Ok(u64::from_be_bytes(bytes))
 }
 
-// Reads as many bytes, and answers their number; it is missing where the file breaks off or there is no room for the bytes.
-fn read_bytes(file: &mut impl Read, count: u64, out: &mut [u8]) -> Number
+// Reads as many bytes to the start of `out`.
+fn read_bytes<'a>(file: &mut impl Read, count: u64, out: &'a mut [u8]) -> Result<&'a [u8], Broken>
     ensures { AtMost (length out.old) result }
 {
     let n = count as usize;
     if out.len() < n {
-        return Number::Missing;
+        return Err(Broken);
     }
-    if file.read_exact(&mut out[..n]).is_err() {
-        return Number::Missing;
-    }
-    Number::Of(count)
+    let part = &mut out[..n];
+    file.read_exact(part)?;
+    Ok(part)
 }
 
 // Reads a length of four bytes, and as many bytes.
-fn read_part(file: &mut impl Read, out: &mut [u8]) -> Number
+fn read_part<'a>(file: &mut impl Read, out: &'a mut [u8]) -> Result<&'a [u8], Broken>
     ensures { AtMost (length out.old) result }
 {
-    let Number::Of(count) = read_number(file, 4) else {
-        return Number::Missing;
-    };
+    let count = read_number(file, 4)?;
     read_bytes(file, count, out)
 }
 
 // Whether a card has the length that its call has.
-fn card_serves(call: u64, count: u64) -> bool
+fn card_serves(call: u64, count: usize) -> bool
     ensures { result ≡ serves call count }
 {
     match call {
@@ -94,107 +143,41 @@ fn card_serves(call: u64, count: u64) -> bool
     }
 }
 
-// Reads what stands behind the call and the card, and the bytes of the input and the expected output to the memory lent.
-fn read_rest(
+// Reads the next record, and the bytes of its label, card, input and expected output to the memory lent. There is none at the end of the
+// file.
+pub fn read_record<'a>(
     file: &mut impl Read,
-    label: u64,
-    call: u64,
-    card: u64,
-    input: &mut [u8],
-    expected: &mut [u8],
-) -> Next
-    requires { serves call card ≡ true }
-    ensures { Whole label card (length input.old) (length expected.old) result }
+    label: &'a mut [u8],
+    card: &'a mut [u8],
+    input: &'a mut [u8],
+    expected: &'a mut [u8],
+) -> Result<Option<Entry<'a>>, Broken>
+    ensures { Whole (length label.old) (length card.old) (length input.old) (length expected.old) result }
 {
-    let Number::Of(input_length) = read_part(file, input) else {
-        return Next::Broken;
+    let Ok(count) = read_number(file, 1) else {
+        return Ok(None);
     };
-    let Number::Of(room) = read_number(file, 4) else {
-        return Next::Broken;
-    };
-    let Number::Of(number) = read_number(file, 1) else {
-        return Next::Broken;
-    };
-    let Number::Of(value) = read_number(file, 8) else {
-        return Next::Broken;
-    };
-    let Number::Of(output) = read_part(file, expected) else {
-        return Next::Broken;
-    };
-    Next::Of(
-        Record {
+    let label = read_bytes(file, count, label)?;
+    let call = read_number(file, 1)?;
+    let card = read_part(file, card)?;
+    if !card_serves(call, card.len()) {
+        return Err(Broken);
+    }
+    let input = read_part(file, input)?;
+    let room = read_number(file, 4)?;
+    let number = read_number(file, 1)?;
+    let value = read_number(file, 8)?;
+    let expected = read_part(file, expected)?;
+    Ok(Some(Entry {
+        head: Record {
             call,
             room,
             number,
             value,
         },
-        Lengths {
-            label,
-            card,
-            input: input_length,
-            output,
-        },
-    )
-}
-
-// Reads the next record, and the bytes of its label, card, input and expected output to the memory lent.
-pub fn read_record(
-    file: &mut impl Read,
-    label: &mut [u8],
-    card: &mut [u8],
-    input: &mut [u8],
-    expected: &mut [u8],
-) -> Next
-    ensures { Whole (length label.old) (length card.old) (length input.old) (length expected.old) result }
-{
-    let Number::Of(count) = read_number(file, 1) else {
-        return Next::End;
-    };
-    let Number::Of(label_len) = read_bytes(file, count, label) else {
-        return Next::Broken;
-    };
-    let Number::Of(call) = read_number(file, 1) else {
-        return Next::Broken;
-    };
-    let Number::Of(card_len) = read_part(file, card) else {
-        return Next::Broken;
-    };
-    if card_serves(call, card_len) {
-        return read_rest(file, label_len, call, card_len, input, expected);
-    }
-    Next::Broken
-}
-
-// A line with a number at its end.
-pub fn put_line(rt: &impl Print, s: &[u8], n: u64) -> io::Result<()> {
-    output::put_named(rt, s, n)?;
-    output::put(rt, b"\n")
-}
-
-// A label, and the number and the value that its call gave.
-pub fn put_case(rt: &impl Print, label: &[u8], number: u64, value: u64) -> io::Result<()> {
-    output::put(rt, label)?;
-    output::put_named(rt, b": ", number)?;
-    put_line(rt, b" ", value)
-}
-
-fn put_counts(rt: &impl Print, name: &[u8], records: u64, mismatches: u64) -> io::Result<()> {
-    output::put_named(rt, name, records)?;
-    output::put_named(rt, b" records, ", mismatches)?;
-    output::put(rt, b" mismatches\n")
-}
-
-// A line for each call, and one for all.
-pub fn put_all(rt: &impl Print, records: &[u64; 11], mismatches: &[u64; 11]) -> io::Result<()> {
-    put_counts(rt, b"fc_send ", records[0], mismatches[0])?;
-    put_counts(rt, b"fc_read ", records[1], mismatches[1])?;
-    put_counts(rt, b"payload_send ", records[2], mismatches[2])?;
-    put_counts(rt, b"payload_read ", records[3], mismatches[3])?;
-    put_counts(rt, b"card_read ", records[4], mismatches[4])?;
-    put_counts(rt, b"card_text ", records[5], mismatches[5])?;
-    put_counts(rt, b"map ", records[6], mismatches[6])?;
-    put_counts(rt, b"slice ", records[7], mismatches[7])?;
-    put_counts(rt, b"card_write ", records[8], mismatches[8])?;
-    put_counts(rt, b"card_move ", records[9], mismatches[9])?;
-    put_counts(rt, b"", records[10], mismatches[10])
+        label,
+        card,
+        input,
+        expected,
+    }))
 }

@@ -8,11 +8,12 @@ use native.Mathlib.Numerals.{add-one}
 use native.Mathlib.Omega.{arith}
 use lib.Bits.{bit_xor, xor_lt}
 use lib.Dec.{lit≤}
-use lib.ListN.{length, get_or, drop}
+use lib.ListN.{length, get_or, drop, get_or-append}
+use lib.Seq.{drop_at}
 use Rattle.bits.specs.Lists.{written}
 use Rattle.bits.specs.Bits.{bit_of, pack, byte_of, bytes_of}
 use Rattle.bits.proofs.BitLaws.{Binary, pack-ext, xor-cancel, pack-xor, length-bytes, byte-bits, bit-binary, bits-bytes, bytes_bits, same_bits}
-use Rattle.bits.proofs.ListLaws.{get_or-written, written-ext, written_over}
+use Rattle.bits.proofs.ListLaws.{tabulate-ext}
 use Rattle.bits.proofs.RangeLaws.{agree, agree₃}
 use Rattle.scrambler.specs.Scrambler.{stage, feedback, shifted, after_shifts, scrambler_bit, all_ones, scrambler_byte, scrambled, scramble}
 
@@ -118,10 +119,6 @@ byte-follows-ten = byte-follows 3 10 (lit≤ tt) follows-eighty
 pub byte-follows-eighty : (i : ℕ) → 80 ≤ i → bit_xor (scrambler_byte (i - 80)) (scrambler_byte (i - 24)) ≡ scrambler_byte i
 byte-follows-eighty = byte-follows 24 80 (lit≤ tt) (follows-twice 224 320 (follows-twice 112 160 (follows-twice 56 80 follows-eighty)))
 
--- the first n bytes, where they are written
-pub bytes-held : (n : ℕ) (was now : List ℕ) → now ≡ written n scrambler_byte was → (k : ℕ) → k < n → get_or now k 0 ≡ scrambler_byte k
-bytes-held n was now e k h = ap (λ (s : List ℕ). get_or s k 0) e ∙ get_or-written n scrambler_byte was k 0 h
-
 -- ---- bits
 
 pub scrambled-binary : (d : ℕ → ℕ) (i : ℕ) → d i < 2 → scrambled d i < 2
@@ -154,21 +151,20 @@ scrambled-byte bytes k h =
     (λ j l. bit-binary bytes (8 * k + j)) (λ j l. scrambler-binary all_ones (8 * k + j))
     ∙ ap (λ (b : ℕ). bit_xor b (scrambler_byte k)) (byte-bits bytes k h))
 
--- the scrambler's bytes are written first, and the block's are added
+-- the scrambler's bytes are put first, and the block's are added
 pub scramble-added : (bytes out run now : List ℕ) → ((k : ℕ) → get_or bytes k 0 < 256)
-    → run ≡ written (length bytes) scrambler_byte out
-    → now ≡ written (length bytes) (λ k. bit_xor (get_or bytes k 0) (get_or run k 0)) run
+    → length run ≡ length bytes → ((k : ℕ) → k < length run → get_or run k 0 ≡ scrambler_byte k)
+    → now ≡ written (length bytes) (λ k. bit_xor (get_or bytes k 0) (get_or (run ++ drop (length bytes) out) k 0)) (run ++ drop (length bytes) out)
     → now ≡ scramble bytes ++ drop (length bytes) out
 unfolding scramble bytes_of written
-scramble-added bytes out run now small e d =
-    let n = length bytes in
-    let f = byte_of (scrambled (bit_of bytes)) in
-    d
-    ∙ written-ext n _ f run
-    (λ k h.
-    ap (bit_xor (get_or bytes k 0)) (ap (λ (l : List ℕ). get_or l k 0) e ∙ get_or-written n scrambler_byte out k 0 h)
-    ∙ scrambled-byte bytes k (small k))
-    ∙ ap (written n f) e ∙ written_over n n f scrambler_byte out (omega arith)
+scramble-added bytes out run now small same held e =
+    e ∙ (rw (drop_at run (drop (length bytes) out) (length bytes) same)
+    (ap (λ (l : List ℕ). l ++ drop (length bytes) out) (tabulate-ext (length bytes) _ _ added)))
+  where
+    added : (k : ℕ) → k < length bytes → bit_xor (get_or bytes k 0) (get_or (run ++ drop (length bytes) out) k 0) ≡ byte_of (scrambled (bit_of bytes)) k
+    added k h =
+        let l : k < length run = omega (arith, same) in
+        ap (bit_xor (get_or bytes k 0)) (get_or-append run (drop (length bytes) out) 0 k l ∙ held k l) ∙ scrambled-byte bytes k (small k)
 
 pub length-scramble : (bytes : List ℕ) → length (scramble bytes) ≡ length bytes
 unfolding scramble

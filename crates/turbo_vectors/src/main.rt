@@ -9,24 +9,24 @@ use std::io;
 
 const TAPS: [u16; 6] = [0, 1095, 2047, 682, 1365, 731];
 
-// A linear congruential generator's state after one step, mod 2^32.
+// A linear congruential generator's state after one step.
 fn advanced(state: u32) -> u32 {
-    ((state as u64 * 1664525 + 1013904223) % 4294967296) as u32
+    state.wrapping_mul(1664525).wrapping_add(1013904223)
 }
 
 // Bytes from the generator, each the top byte of a state.
 fn generate(seed: u32, bytes: &mut [u8]) {
     let mut state = seed;
-    for byte in bytes.iter_mut() {
+    for byte in bytes {
         state = advanced(state);
-        *byte = (state / 16777216) as u8;
+        *byte = (state >> 24) as u8;
     }
 }
 
 // Bits as the characters 0 and 1.
 fn to_text(bits: &mut [u8]) {
-    for bit in bits.iter_mut() {
-        *bit = 48 + *bit % 2;
+    for bit in bits {
+        *bit = b'0' + *bit % 2;
     }
 }
 
@@ -45,19 +45,16 @@ fn print_parity(
     bits::unpack(&packed, &mut out);
     to_text(&mut out);
     let n = turbo::kept_count(kind, rate);
-    output::put(rt, &out[..n])?;
-    output::put(rt, b"\n")
+    rt.write_all(&out[..n])?;
+    println!(rt)
 }
 
 fn print_line(rt: &impl Print, kind: usize, rate: usize, taps: u16) -> io::Result<()>
     requires { (kind < 5) × (rate < 2) }
 {
-    output::put_named(rt, b"kind ", kind as u64)?;
-    output::put_named(rt, b" rate ", rate as u64)?;
-    output::put_named(rt, b" taps ", taps as u64)?;
-    output::put(rt, b" ")?;
+    print!(rt; "kind {kind} rate {rate} taps {taps} ")?;
     let mut bytes = [0u8; 520];
-    generate(12345 + 1000 * (kind as u32) + taps as u32, &mut bytes);
+    generate(12345 + 1000 * (kind as u32) + u32::from(taps), &mut bytes);
     let n = card::block_bytes(kind);
     print_parity(rt, kind, rate, taps, &bytes[..n])
 }
@@ -65,9 +62,8 @@ fn print_line(rt: &impl Print, kind: usize, rate: usize, taps: u16) -> io::Resul
 fn print_lines(rt: &impl Print, kind: usize, rate: usize) -> io::Result<()>
     requires { (kind < 5) × (rate < 2) }
 {
-    let taps = TAPS;
-    for i in 0..6 {
-        print_line(rt, kind, rate, taps[i])?;
+    for taps in TAPS {
+        print_line(rt, kind, rate, taps)?;
     }
     Ok(())
 }

@@ -1,46 +1,35 @@
--- `bits::disagreements` meets its contract. The invariant: n is the count among the bits of the first i bytes. Assumes nothing.
-use mathlib.Core.Path.{◌≡◌, refl, ap, ◌∙◌}
-use Prim.Native.Nat.{ℕ, ◌+◌, ◌*◌}
+-- `bits::disagreements` meets its contract. The invariant: n is the count among the bits of the bytes so far. Assumes nothing.
+use mathlib.Core.Path.{◌≡◌, refl, ◌∙◌}
+use Prim.Native.Nat.{◌+◌, ◌*◌, ◌<◌}
 use native.Mathlib.Omega.{arith}
-use lib.ListN.{length}
+use lib.ListN.{length, length-append}
 use borrow.Author.Rules.{rules}
+use Rattle.std.proofs.lemmas.Slice.Zip.{zip_turn}
 use Rattle.bits.specs.Sums.{sum, count}
 use Rattle.bits.proofs.SumLaws.{count-le}
-use Rattle.bits.proofs.DifferLaws.{unlike, unlike-next}
+use Rattle.bits.proofs.DifferLaws.{unlike, unlike-next, unlike-bytes}
 use Rattle.bits.proofs.disagreements.Goals as goal
 use Rattle.bits.proofs.disagreements.Goals.{After-differing-n}
 
--- the count after a turn
+-- the place of the pair, and the count after the turn
 turn : (c : After-differing-n)
-    → let a = c.args in
-    let l = c.loop-i in
-    l.n + c.differing-n.result ≡ count (8 * (l.i + 1)) (unlike a.a.now a.b.now)
+    → let i = length c.loop-x.yielded in
+    (i < length c.args.a.now) × (c.loop-x.n + c.differing-n.result ≡ count (8 * (i + 1)) (unlike c.args.a.now c.args.b.now))
 turn c =
-    let a = c.args in
-    let l = c.loop-i in
-    unlike-next a.a.now a.b.now l.i l.n c.differing-n.result l.invariant.1 c.differing-n.ensures
+    let a = c.args.a.now in
+    let b = c.args.b.now in
+    let l = c.loop-x in
+    let (within, _, x, y) = zip_turn a b l.yielded _ l.x-iterator c.next.new.self c.next.result (search rules) (search rules) l.yielded_by (c.in-Some.x, c.in-Some.y) c.in-Some.is c.next.ensures.steps in
+    (within, unlike-next a b (length l.yielded) l.n c.differing-n.result l.invariant (c.differing-n.ensures ∙ unlike-bytes (x 0) (y 0)))
 
-pub loop-i-init : goal.loop-i-init
+pub loop-x-init : goal.loop-x-init
 unfolding count sum
-loop-i-init c = (search rules, refl)
+loop-x-init c = refl
 
 pub overflow_add-n : goal.overflow_add-n
 overflow_add-n c =
-    let a = c.args in
-    let i : ℕ = c.loop-i.i in
-    omega (arith, turn c, count-le (8 * (i + 1)) (unlike a.a.now a.b.now))
+    let (within, n) = turn c in
+    omega (arith, n, count-le (8 * (length c.loop-x.yielded + 1)) (unlike c.args.a.now c.args.b.now))
 
-pub loop-i-preserved : goal.loop-i-preserved
-loop-i-preserved c = (search rules, turn c)
-
-pub overflow_cast-result : goal.overflow_cast-result
-overflow_cast-result c =
-    let a = c.args in
-    let i : ℕ = c.loop-i.i in
-    omega (arith, count-le (8 * i) (unlike a.a.now a.b.now))
-
-pub returns : goal.returns
-returns c =
-    let a = c.args in
-    let q : c.loop-i.i ≡ length a.a.now = omega arith in
-    c.loop-i.invariant.1 ∙ ap (λ (m : ℕ). count (8 * m) (unlike a.a.now a.b.now)) q
+pub loop-x-preserved : goal.loop-x-preserved
+loop-x-preserved c = simp length-append (turn c).1

@@ -1,18 +1,12 @@
 -- `bits::fill` meets its contract. Assumes nothing.
-use mathlib.Core.Path.{refl}
-use native.Mathlib.Omega.{arith}
-use lib.ListN.{length-set}
-use borrow.Author.Rules.{rules}
-use Rattle.bits.proofs.ListLaws.{written_none, written_next, written_all}
+use mathlib.Core.Path.{ap, ◌∙◌}
+use Prim.Native.Nat.{ℕ}
+use lib.ListN.{replicate}
+use lib.Seq.{length-take-le}
+use Rattle.bits.proofs.ListLaws.{written-fill}
 use Rattle.bits.proofs.fill.Goals as goal
 
-pub loop-i-init : goal.loop-i-init
-loop-i-init c = (search rules, written_none _ _, refl)
-
-pub loop-i-preserved : goal.loop-i-preserved
-loop-i-preserved c =
-    let turn = c.loop-i.invariant in
-    (search rules, written_next _ _ _ _ _ turn.1 (omega arith) refl, simp length-set turn.2)
-
 pub returns : goal.returns
-returns c = written_all _ _ _ _ _ c.loop-i.invariant.1 (omega arith)
+returns c =
+    written-fill c.args.count c.args.value c.args.out.now c.fill.new.self
+    (c.fill.ensures.after (λ y e. e) ∙ ap (λ (n : ℕ). replicate n c.args.value) (length-take-le c.args.count c.args.out.now c.requires))

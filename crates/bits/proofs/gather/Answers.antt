@@ -1,18 +1,18 @@
 -- `bits::gather` meets its contract. Assumes nothing.
-use mathlib.Core.Path.{ap, ◌∙◌}
+use mathlib.Core.Path.{◌≡◌, refl, ap, ◌∙◌}
 use Prim.Native.Nat.{ℕ, ◌+◌, ◌*◌}
 use native.Mathlib.Omega.{arith}
 use lib.ListN.{get_or}
+use Rattle.bits.specs.Loops.Words.{word_byte}
 use Rattle.bits.proofs.WordLaws.{joined-byte}
 use Rattle.bits.proofs.gather.Goals as goal
 
 pub returns : goal.returns
-returns c =
+returns c k h =
     let from = c.args.from.now in
-    let a = c.wide-a in
-    let b = c.wide-b in
-    let d = c.wide-c in
-    let e = c.wide-d in
-    joined-byte (λ k. get_or from (k * c.args.apart + c.args.at) 0) a.result b.result d.result e.result
-    a.ensures.1 b.ensures.1 d.ensures.1 e.ensures.1
-    (a.ensures.0 ∙ ap (λ (x : ℕ). get_or from x 0) (omega arith)) (b.ensures.0 ∙ ap (λ (x : ℕ). get_or from x 0) (omega arith)) d.ensures.0 e.ensures.0
+    let byte = λ (i : ℕ). (c.type_inv.from i).fits in
+    let first : c.args.at ≡ 0 * c.args.apart + c.args.at = omega arith in
+    let second : c.args.apart + c.args.at ≡ 1 * c.args.apart + c.args.at = omega arith in
+    ap (λ (w : ℕ). word_byte w k) c.from_le_bytes.ensures
+    ∙ joined-byte (λ k. get_or from (k * c.args.apart + c.args.at) 0) _ _ _ _ (byte _) (byte _) (byte _) (byte _)
+    (ap (λ (i : ℕ). get_or from i 0) first) (ap (λ (i : ℕ). get_or from i 0) second) refl refl k h

@@ -1,20 +1,17 @@
--- `bits::put_number` meets its contract. The invariant: the first k bytes are written. Assumes nothing.
-use mathlib.Core.Path.{refl}
-use native.Mathlib.Omega.{arith}
-use lib.ListN.{length-set}
-use Rattle.bits.proofs.ListLaws.{written_none, written_next, written_all}
-use borrow.Author.Rules.{rules}
+-- `bits::put_number` meets its contract: the last n of the number's eight bytes. Assumes nothing.
+use mathlib.Core.Path.{ap, ◌∙◌}
+use mathlib.Core.List.{List, ◌++◌}
+use Prim.Native.Nat.{ℕ, ◌-◌}
+use lib.ListN.{take, drop}
+use Rattle.bits.specs.Lists.{written}
+use Rattle.bits.proofs.BitLaws.{last-bytes}
 use Rattle.bits.proofs.put_number.Goals as goal
 
-pub loop-k-init : goal.loop-k-init
-loop-k-init c = (search rules, written_none _ _, refl)
-
-pub loop-k-preserved : goal.loop-k-preserved
-loop-k-preserved c =
-    let inv = c.loop-k.invariant in
-    (search rules, written_next _ _ _ _ _ inv.1 (omega arith) refl, simp length-set inv.2)
-
 pub returns : goal.returns
+unfolding written
 returns c =
-    let inv = c.loop-k.invariant in
-    written_all _ _ _ _ _ inv.1 (omega arith)
+    let n = c.args.n in
+    ap (λ (l : List ℕ). l ++ drop n c.args.out.now)
+    (c.copy_from_slice.ensures.after
+    ∙ ap (λ (l : List ℕ). take (8 - (8 - n)) (drop (8 - n) l)) c.to_be_bytes.ensures
+    ∙ last-bytes n c.args.number c.requires.0)

@@ -1,13 +1,9 @@
 -- `bits::unpack` meets its contract. The invariant: the bits of the first k bytes are written. Assumes nothing.
 use mathlib.Core.Path.{◌≡◌}
-use Prim.Native.Nat.{◌*◌, ◌-◌, ◌≤◌}
-use lib.ListN.{length}
-use Rattle.bits.specs.Lists.{written}
+use Prim.Native.Nat.{◌*◌}
 use Rattle.bits.specs.Bits.{bit_of}
+use Rattle.bits.specs.Lists.{written}
 use Rattle.bits.proofs.unpack.Given as goal
 
 abbrev pub invariant-loop-k : goal.invariant-loop-k
-invariant-loop-k l = (l.k ≤ length l.bytes) × (l.out ≡ written (8 * l.k) (bit_of l.bytes) l.initial.out) × (length l.out ≡ length l.initial.out)
-
-abbrev pub decreases-loop-k : goal.decreases-loop-k
-decreases-loop-k l = length l.bytes - l.k
+invariant-loop-k l = l.out ≡ written (8 * l.k) (bit_of l.bytes) l.initial.out

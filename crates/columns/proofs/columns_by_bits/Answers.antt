@@ -8,7 +8,6 @@ use Rattle.bits.proofs.ListLaws.{get_or-written}
 use Rattle.columns.specs.Columns.{unrowed}
 use Rattle.bits.proofs.BitLaws.{bytes-ext}
 use Rattle.columns.proofs.ColumnLaws.{unrowed-lt}
-use borrow.Author.Rules.{rules}
 use Rattle.columns.proofs.columns_by_bits.Goals as goal
 use Rattle.columns.proofs.columns_by_bits.Goals.{After-take_elements}
 
@@ -20,12 +19,9 @@ held c i h =
     let a = c.args in
     ap (λ (l : List ℕ). get_or l i 0) c.take_elements.ensures ∙ get_or-written (4 * a.height) (unrowed a.height (λ j. get_or a.rows.now j 0)) _ i 0 h
 
-pub pack-requires : goal.pack-requires
-pack-requires c =
-    record {
-      count_bound = (omega arith, omega arith, search rules);
-      by_index = λ i h. rw (held (goal.at.pack-requires c).After-take_elements i (omega arith)) (unrowed-lt c.args.height (λ j. get_or c.args.rows.now j 0) c.requires.by_index i (omega arith));
-    }
+pub pack-requires-clause-by_index : goal.pack-requires-clause-by_index
+pack-requires-clause-by_index c =
+    λ i h. rw (held (goal.at.pack-requires-clause-by_index c).After-take_elements i (omega arith)) (unrowed-lt c.args.height (λ j. get_or c.args.rows.now j 0) c.requires.by_index i (omega arith))
 
 pub returns : goal.returns
 returns c =

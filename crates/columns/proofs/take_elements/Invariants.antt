@@ -1,7 +1,7 @@
 -- `columns::take_elements` meets its contract. The invariant: the elements of the first r rows are stored. Assumes nothing.
 use mathlib.Core.Path.{◌≡◌}
-use Prim.Native.Nat.{◌-◌, ◌*◌, ◌≤◌}
-use lib.ListN.{length, get_or}
+use Prim.Native.Nat.{◌*◌}
+use lib.ListN.{get_or}
 use Rattle.bits.specs.Loops.Words.{stored}
 use Rattle.columns.specs.Columns.{unrowed}
 use Rattle.columns.proofs.RowLaws.{place}
@@ -9,8 +9,4 @@ use Rattle.columns.proofs.take_elements.Given as goal
 
 abbrev pub invariant-loop-r : goal.invariant-loop-r
 invariant-loop-r l =
-    (l.r ≤ l.height) × (l.out ≡ stored (4 * l.r) (place l.height) (λ k. unrowed l.height (λ j. get_or l.rows j 0) (place l.height k)) l.initial.out)
-    × (length l.out ≡ length l.initial.out)
-
-abbrev pub decreases-loop-r : goal.decreases-loop-r
-decreases-loop-r l = l.height - l.r
+    l.out ≡ stored (4 * l.r) (place l.height) (λ k. unrowed l.height (λ j. get_or l.rows j 0) (place l.height k)) l.initial.out

@@ -6,7 +6,7 @@ use Rattle.combining.proofs.counters_of.Goals as goal
 
 pub loop-run-init : goal.loop-run-init
 loop-run-init c =
-    let start : c.into_iter-run-iterator.result.carrier ≡ 0 = search rules in
+    let start : c.into_iter-run-iterator.result.item ≡ 0 = search rules in
     (search rules, search rules, rw start (adds_none _ _ _ _ _))
 
 pub count_run-requires : goal.count_run-requires

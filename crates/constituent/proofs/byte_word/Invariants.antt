@@ -1,13 +1,8 @@
 -- `constituent::byte_word` meets its contract. The invariant: s is the state and `parities` has the parity bits after j pairs. Assumes nothing.
 use mathlib.Core.Path.{◌≡◌}
-use Prim.Native.Nat.{◌-◌, ◌≤◌}
 use Rattle.constituent.specs.Encoder.{state_at}
 use Rattle.constituent.specs.Loops.Bytes.{parities, pair_in}
 use Rattle.constituent.proofs.byte_word.Given as goal
 
 abbrev pub invariant-loop-j : goal.invariant-loop-j
-invariant-loop-j l =
-    (l.j ≤ 4) × (l.s ≡ state_at l.taps (pair_in l.byte) l.state l.j) × (l.parities ≡ parities l.taps (pair_in l.byte) l.state l.j)
-
-abbrev pub decreases-loop-j : goal.decreases-loop-j
-decreases-loop-j l = 4 - l.j
+invariant-loop-j l = (l.s ≡ state_at l.taps (pair_in l.byte) l.state l.j) × (l.parities ≡ parities l.taps (pair_in l.byte) l.state l.j)

@@ -1,12 +1,9 @@
--- `constituent::fold` meets its contract. The invariant: 56 sums lead every encoder to where the bytes before `at` lead it, and zeros follow them.
+-- `constituent::fold` meets its contract. The invariant: 56 sums lead every encoder to where the chunks so far lead it, and zeros follow them.
 -- Assumes nothing.
-use Prim.Native.Nat.{◌-◌, ◌≤◌}
+use Prim.Native.Nat.{◌*◌}
 use lib.ListN.{length}
 use Rattle.constituent.proofs.FoldLaws.{Folded}
 use Rattle.constituent.proofs.fold.Given as goal
 
-abbrev pub invariant-loop-at : goal.invariant-loop-at
-invariant-loop-at l = (l.at ≤ length l.bytes) × Folded l.bytes l.at l.sums
-
-abbrev pub decreases-loop-at : goal.decreases-loop-at
-decreases-loop-at l = length l.bytes - l.at
+abbrev pub invariant-loop-chunk : goal.invariant-loop-chunk
+invariant-loop-chunk l = Folded l.bytes (56 * length l.yielded) l.sums

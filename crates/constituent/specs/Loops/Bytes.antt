@@ -1,6 +1,5 @@
 -- The encoders a byte at a time: four pairs in one step. Assumes nothing.
 use Rattle.std.specs.Prelude.{◌≡◌, List, ℕ, zero, suc, ◌+◌, ◌-◌, ◌*◌, ◌/◌, ◌%◌, ◌^◌, ◌<◌, length, get_or}
-use Rattle.constituent.specs.declared.Rows.{Rows}
 use Rattle.constituent.specs.Encoder.{parity, state_at}
 
 -- pair j of a byte
@@ -36,7 +35,3 @@ StatesBy taps n = (s : ℕ) → s < 8 → n / 2 ^ (8 * s) % 256 ≡ byte_word ta
 
 abbrev pub ParitiesBy : ℕ → ℕ → Type 0
 ParitiesBy taps n = (s : ℕ) → s < 8 → n / 2 ^ (8 * s) % 256 ≡ byte_word taps s 0 / 256
-
-pub record ByStates (r : Rows) : Type 0 where
-  pub after : StatesBy r.taps r.states
-  pub gives : ParitiesBy r.taps r.parities

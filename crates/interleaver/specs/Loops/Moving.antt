@@ -15,7 +15,7 @@ pub record Within (n first : ℕ) (from to : List ℕ) : Type 0 where
   pub row_from : first + 4 ≤ length from
   pub row-to : first + 4 ≤ length to
 
--- A shape whose nibbles go in groups of one parity nibble each, and that has a first row.
+-- A shape whose step and group are at least one, and whose data nibbles make a group for each parity nibble.
 pub record Orderly (L : Shape) : Type 0 where
   pub step-pos : zero < L.step
   pub group-pos : zero < L.group

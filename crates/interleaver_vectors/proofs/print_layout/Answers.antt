@@ -4,11 +4,7 @@ use Rattle.interleaver_shape.proofs.ShapeLaws.{coded-le}
 use Rattle.interleaver_vectors.proofs.print_layout.Goals as goal
 
 pub shuffle-requires : goal.shuffle-requires
-shuffle-requires g c = (c.requires, omega arith, omega (arith, coded-le c.args.kind c.args.rate c.requires))
+shuffle-requires g c = (omega arith, omega (arith, coded-le c.args.coding.kind c.args.coding.rate c.args.coding.defined))
 
 pub shuffle-requires-2 : goal.shuffle-requires-2
-shuffle-requires-2 g c = (c.requires, omega arith, omega (arith, coded-le c.args.kind c.args.rate c.requires))
-
-pub print_numbers-requires : goal.print_numbers-requires
-print_numbers-requires g c =
-    (omega (arith, coded-le c.args.kind c.args.rate c.requires), omega (arith, coded-le c.args.kind c.args.rate c.requires))
+shuffle-requires-2 g c = (omega arith, omega (arith, coded-le c.args.coding.kind c.args.coding.rate c.args.coding.defined))

@@ -1,13 +1,11 @@
--- `pair_interleaver::exchange_all` meets its contract. The invariant: i bytes are exchanged. Assumes nothing.
-use mathlib.Core.Path.{◌≡◌}
-use Prim.Native.Nat.{◌-◌, ◌≤◌}
-use lib.ListN.{length, get_or}
-use Rattle.bits.specs.Lists.{written}
+-- `pair_interleaver::exchange_all` meets its contract. The invariant: the bytes passed are exchanged, and the others kept.
+-- Assumes nothing.
+use Rattle.std.proofs.Common.{◌≡◌, ℕ, ◌<◌, ◌≤◌, slice_index}
 use Rattle.pair_interleaver.specs.Loops.Gather.{exchanged_byte}
 use Rattle.pair_interleaver.proofs.exchange_all.Given as goal
 
-abbrev pub invariant-loop-i : goal.invariant-loop-i
-invariant-loop-i l = (l.i ≤ l.n) × (l.out ≡ written l.i (λ k. exchanged_byte (get_or l.initial.out k 0)) l.initial.out) × (length l.out ≡ length l.initial.out)
-
-abbrev pub decreases-loop-i : goal.decreases-loop-i
-decreases-loop-i l = l.n - l.i
+abbrev pub invariant-loop-byte : goal.invariant-loop-byte
+invariant-loop-byte l = record {
+  done : (i : ℕ) → i < l.byte-index → slice_index l.out i ≡ exchanged_byte (slice_index l.initial.out i);
+  kept : (i : ℕ) → l.byte-index ≤ i → slice_index l.out i ≡ slice_index l.initial.out i;
+}

@@ -1,33 +1,28 @@
--- `pair_interleaver::list_twice` meets its contract. Assumes nothing.
-use mathlib.Core.Path.{ap, ◌∙◌}
-use Prim.Native.Nat.{◌*◌}
-use native.Mathlib.Omega.{arith}
-use lib.ListN.{length, length-take, length-drop}
-use Rattle.pair_interleaver.proofs.GatherLaws.{halves_long, pairs-written, listed-twice}
-use Rattle.bits.proofs.ListLaws.{length-written}
+-- `pair_interleaver::list_twice` meets its contract: the digits of digits are the pairs, and their copy stands after them. Assumes nothing.
+use Rattle.std.proofs.Common.{◌≡◌, ℕ, ◌-◌, ◌*◌, ◌<◌, ◌++◌, List, length, get_or, ap, ◌∙◌, rules, arith, get_or-take}
+use lib.ListN.{get_or-append}
+use Rattle.std.proofs.lemmas.List.{places}
+use Rattle.bits.specs.Bits.{bit_of}
+use Rattle.bits.proofs.NumberLaws.{lt-cases}
+use Rattle.constituent.specs.Pairs.{pair_at}
+use Rattle.pair_interleaver.proofs.GatherLaws.{digits-pairs, twice-first, twice-again}
 use Rattle.pair_interleaver.proofs.list_twice.Goals as goal
-
-pub slice_bounds-split-end-2 : goal.slice_bounds-split-end-2
-slice_bounds-split-end-2 c =
-    halves_long c.args.bytes.now _ _ c.split.ensures
-
-pub split-requires-2 : goal.split-requires-2
-split-requires-2 c =
-    let n = halves_long c.args.bytes.now _ _ c.split.ensures in
-    (omega arith, omega (arith, n, c.requires.0), omega (arith, n, c.requires.1))
-
-pub slice_bounds-split-end-3 : goal.slice_bounds-split-end-3
-slice_bounds-split-end-3 c =
-    halves_long c.args.bytes.now _ _ c.split.ensures
-
-pub split-requires-3 : goal.split-requires-3
-split-requires-3 c =
-    let n = halves_long c.args.bytes.now _ _ c.split.ensures in
-    let o = pairs-written c.args.bytes.now _ _ c.split.ensures c.args.out.now _ c.split-2.ensures in
-    let m = ap length o ∙ length-written (4 * length c.args.bytes.now) _ c.args.out.now (omega (arith, c.requires.1)) in
-    (omega arith, omega (arith, n, c.requires.0), simp (length-take, length-drop) (omega (arith, n, m, c.requires.1)))
 
 pub returns : goal.returns
 returns c =
-    let h = pairs-written c.args.bytes.now _ _ c.split.ensures in
-    listed-twice (4 * length c.args.bytes.now) _ _ _ _ _ (omega arith) (h _ _ c.split-2.ensures) (h _ _ c.split-3.ensures)
+    let bytes = c.args.bytes.now in
+    let l = 4 * length bytes in
+    let p = pair_at (bit_of bytes) in
+    let first = c.split-2.new.out in
+    let again = c.copy_from_slice.new.self in
+    let long : length first ≡ l = search rules in
+    let same : again ≡ first = c.copy_from_slice.ensures.after in
+    let pairs = λ (t : ℕ) (b : t < l).
+    c.split-2.ensures t (omega arith)
+    ∙ digits-pairs bytes _ (λ k h. get_or-take (2 * length bytes) _ k 0 h ∙ get_or-append c.split.new.out _ 0 k (search rules) ∙ c.split.ensures k (search rules)) t b in
+    λ t h.
+    lt-cases t l
+    (λ b. get_or-append first again 0 t (omega arith) ∙ pairs t b ∙ twice-first l p t b)
+    (λ b.
+    let after : get_or (first ++ again) t 0 ≡ get_or again (t - l) 0 = grind (arith, places) in
+    after ∙ ap (λ (s : List ℕ). get_or s (t - l) 0) same ∙ pairs (t - l) (omega arith) ∙ twice-again l p t b (omega arith))

@@ -1,48 +1,54 @@
 -- `pair_interleaver::second_bytes` meets its contract. Assumes nothing.
-use mathlib.Core.Path.{◌≡◌, ap}
-use Prim.Native.Nat.{◌*◌}
-use native.Mathlib.Omega.{arith}
-use lib.ListN.{length, replicate}
+use Rattle.std.proofs.Common.{◌≡◌, ℕ, ◌*◌, ◌++◌, List, length, drop, take, sym, ap, ◌∙◌, rules, arith}
 use Rattle.bits.specs.Lists.{written}
-use Rattle.bits.proofs.ListLaws.{length-written}
-use Rattle.pair_interleaver.specs.Interleave.{starts}
-use Rattle.pair_interleaver.specs.Loops.Gather.{place_in}
-use Rattle.pair_interleaver.proofs.InterleaveLaws.{few-columns}
-use Rattle.constituent.proofs.PairLaws.{few-pairs}
-use Rattle.pair_interleaver.proofs.GatherLaws.{places-long, list-long, second-asked, second-done}
+use Rattle.bits.proofs.ListLaws.{tabulate-of}
+use Rattle.pair_interleaver.specs.Loops.Gather.{place_in, exchanged_byte}
+use Rattle.pair_interleaver.proofs.InterleaveLaws.{few-columns, starts-below}
+use Rattle.pair_interleaver.proofs.GatherLaws.{second-asked, second-done}
 use Rattle.pair_interleaver.proofs.second_bytes.Goals as goal
 
-pub overflow_mul-end : goal.overflow_mul-end
-overflow_mul-end c = omega (arith, c.columns-end.ensures, few-columns c.args.kind c.requires.0)
-
-pub list_twice-requires : goal.list_twice-requires
-list_twice-requires c =
-    (omega (arith, c.requires.1, few-pairs c.args.kind c.requires.0), omega (arith, c.requires.1, c.requires.2))
-
-pub slice_bounds-rows-end : goal.slice_bounds-rows-end
-slice_bounds-rows-end c =
-    let n : length (written (4 * length (starts c.args.kind)) (place_in (starts c.args.kind)) (replicate 160 0)) ≡ 160 =
-    length-written (4 * length (starts c.args.kind)) _ (replicate 160 0) (omega (arith, few-columns c.args.kind c.requires.0)) in
-    omega (arith, c.columns-end.ensures, few-columns c.args.kind c.requires.0, ap length c.row_places.ensures, n)
-
-pub slice_bounds-interleave-end : goal.slice_bounds-interleave-end
-slice_bounds-interleave-end c =
-    places-long c.args.kind c.requires.0 c.args.bytes.now c.requires.1 _ c.columns-end.ensures _ _ _ _ c.row_places.ensures c.list_twice.ensures
-
-pub slice_bounds-interleave-end-3 : goal.slice_bounds-interleave-end-3
-slice_bounds-interleave-end-3 c =
-    list-long c.args.kind c.requires.0 c.args.bytes.now c.requires.1 _ c.columns-end.ensures _ _ _ _ c.row_places.ensures c.list_twice.ensures
+pub places-requires : goal.places-requires
+places-requires c =
+    let e = c.table-starts.ensures in
+    let few = few-columns c.args.kind c.requires.0 in (
+      rw e few,
+      search rules,
+      rw e (starts-below c.args.kind c.requires.0),
+    )
 
 pub interleave-requires : goal.interleave-requires
 interleave-requires c =
-    second-asked c.args.kind c.requires.0 c.args.bytes.now c.requires.1 _ c.columns-end.ensures _ _ _ _ c.row_places.ensures c.list_twice.ensures
-    c.args.out.now c.requires.3
+    let e = c.table-starts.ensures in
+    let many : length c.places.new.out ≡ 4 * length c.table-starts.result.now = search rules in
+    let long : length c.list_twice.new.out ≡ 8 * length c.args.bytes.now = search rules in
+    second-asked c.args.kind c.requires.0 c.args.bytes.now c.requires.1 c.places.new.out c.list_twice.new.out (many ∙ ap (λ (s : List ℕ). 4 * length s) e) long
+    (λ t h. c.places.ensures t (omega (arith, ap length e)) ∙ ap (λ (s : List ℕ). place_in s t) e)
+    (λ t h. c.list_twice.ensures t (omega arith))
+    _ (search rules)
 
-pub returns : goal.returns
-returns c =
-    let l = c.list_twice.ensures in
-    record {
-      list_after = l;
-      out_after = second-done c.args.kind c.requires.0 c.args.bytes.now c.requires.1 _ c.columns-end.ensures _ _ _ _ c.row_places.ensures l
-          c.args.out.now _ _ c.requires.3 c.interleave.ensures c.exchange_all.ensures;
-    }
+pub returns-clause-list_after : goal.returns-clause-list_after
+unfolding written
+returns-clause-list_after c =
+    let n = 8 * length c.args.bytes.now in
+    let long : length c.list_twice.new.out ≡ n = search rules in
+    ap (λ (l : List ℕ). l ++ drop n c.args.list.now) (tabulate-of n _ 0 c.list_twice.new.out long (λ t h. c.list_twice.ensures t (omega arith)))
+
+pub returns-clause-out_after : goal.returns-clause-out_after
+unfolding written
+returns-clause-out_after c =
+    let n = length c.args.bytes.now in
+    let e = c.table-starts.ensures in
+    let many : length c.places.new.out ≡ 4 * length c.table-starts.result.now = search rules in
+    let long : length c.list_twice.new.out ≡ 8 * n = search rules in
+    let room : length (take n c.args.out.now) ≡ n = search rules in
+    let made : length c.interleave.new.out ≡ n = search rules in
+    let done : length c.exchange_all.new.out ≡ n = search rules in
+    rw (sym c.requires.1)
+    (ap (λ (l : List ℕ). l ++ drop n c.args.out.now)
+    (tabulate-of n _ 0 c.exchange_all.new.out done
+    (λ i h.
+    c.exchange_all.ensures i (omega arith)
+    ∙ ap exchanged_byte (rw room at (c.interleave.ensures i (omega arith)))
+    ∙ second-done c.args.kind c.requires.0 c.args.bytes.now c.requires.1 c.places.new.out c.list_twice.new.out (many ∙ ap (λ (s : List ℕ). 4 * length s) e) long
+    (λ t h. c.places.ensures t (omega (arith, ap length e)) ∙ ap (λ (s : List ℕ). place_in s t) e)
+    (λ t h. c.list_twice.ensures t (omega arith)) i h)))

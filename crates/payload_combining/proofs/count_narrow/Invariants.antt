@@ -1,15 +1,8 @@
 -- `payload_combining::count_narrow` meets its contract. The invariant: the carriers passed are counted. Assumes nothing.
 use mathlib.Core.Path.{◌≡◌}
-use Prim.Native.Nat.{◌-◌, ◌≤◌}
-use lib.ListN.{length}
 use Rattle.votes.specs.Loops.Counters.{counted}
-use Rattle.payload_layout.specs.Layouts.{group_carriers}
 use Rattle.payload_combining.specs.Loops.Groups.{slot_on}
 use Rattle.payload_combining.proofs.count_narrow.Given as goal
 
 abbrev pub invariant-loop-p : goal.invariant-loop-p
-invariant-loop-p l =
-    (l.p ≤ group_carriers l.l) × (length l.counters ≡ l.l.coded) × (l.counters ≡ counted l.l.coded l.p (slot_on l.l l.k l.g) l.items l.initial.counters)
-
-abbrev pub decreases-loop-p : goal.decreases-loop-p
-decreases-loop-p l = group_carriers l.l - l.p
+invariant-loop-p l = l.counters ≡ counted l.slots.layout.coded l.p (slot_on l.slots.layout l.slot.copy l.slot.group) l.items l.initial.counters

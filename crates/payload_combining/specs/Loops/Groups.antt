@@ -1,6 +1,5 @@
 -- Which bit an item of a slot carries, and which an item of a group in order; and counters before any vote. Assumes nothing.
-use Rattle.std.specs.Prelude.{Bool, List, ℕ, ◌+◌, ◌*◌}
-use Rattle.bits.specs.Lists.{tabulate}
+use Rattle.std.specs.Prelude.{Bool, List, ℕ, ◌+◌, ◌*◌, replicate}
 use Rattle.votes.specs.Votes.{carries}
 use Rattle.votes.specs.Loops.Counters.{middle}
 use Rattle.payload_layout.specs.declared.Layout.{Layout}
@@ -18,4 +17,4 @@ group_on L k g = carries (λ x. padded L k (g * group_bits L + x))
 
 -- a counter for each coded bit, each in the middle
 abbrev pub middles : Layout → List ℕ
-middles L = tabulate L.coded (λ _. middle)
+middles L = replicate L.coded middle

@@ -1,32 +1,29 @@
 -- `payload_layout::one_copy` meets its contract: one division gives what the section's arithmetic does. Assumes nothing.
-use Prim.Native.Nat.{◌*◌, ◌<◌, ◌≤◌}
-use native.Mathlib.Nat.{mul-le-mul, mul-pos}
+use Prim.Native.Nat.{◌*◌, ◌<◌}
+use native.Mathlib.Nat.{mul-pos}
 use native.Mathlib.Omega.{arith}
 use Rattle.payload_layout.proofs.NumberLaws.{symbols-hold, symbols-tight, one-made}
 use Rattle.payload_layout.proofs.one_copy.Goals as goal
-use Rattle.payload_layout.proofs.one_copy.Goals.{Start}
+use Rattle.payload_layout.proofs.one_copy.Goals.{Start, After-div_ceil-symbols}
 
--- a symbol's bits
+-- a symbol has bits
 some : (c : Start) → 0 < c.args.bits * c.args.carriers
 some c = mul-pos c.requires.2 c.requires.0
 
-few : (c : Start) → c.args.bits * c.args.carriers ≤ 1644
-few c = omega (arith, mul-le-mul {n₁ = c.args.bits} {m₁ = c.args.carriers} {n₂ = 4} {m₂ = 411} c.requires.3 c.requires.1)
-
-pub overflow_mul-symbol : goal.overflow_mul-symbol
-overflow_mul-symbol c = omega (arith, few c)
-
-pub overflow_add-symbols : goal.overflow_add-symbols
-overflow_add-symbols c = omega (arith, few c)
-
-pub nonzero_div-symbols : goal.nonzero_div-symbols
-nonzero_div-symbols c = some c
+pub div_ceil-symbols-requires : goal.div_ceil-symbols-requires
+div_ceil-symbols-requires c = some c
 
 pub overflow_mul-result : goal.overflow_mul-result
-overflow_mul-result c = omega (arith, few c, symbols-tight (c.args.bits * c.args.carriers) c.args.coded (some c))
+overflow_mul-result c =
+    let a = c.args in
+    rw c.div_ceil-symbols.ensures (grind (arith, symbols-tight (a.bits * a.carriers) a.coded (mul-pos c.requires.2 c.requires.0)))
 
 pub overflow_sub-result : goal.overflow_sub-result
-overflow_sub-result c = symbols-hold (c.args.bits * c.args.carriers) c.args.coded (some c)
+overflow_sub-result c =
+    let a = c.args in
+    rw c.div_ceil-symbols.ensures (symbols-hold (a.bits * a.carriers) a.coded (mul-pos c.requires.2 c.requires.0))
 
 pub returns : goal.returns
-returns c = one-made c.args.carriers c.args.bits c.args.coded (some c)
+returns c =
+    let a = c.args in
+    rw c.div_ceil-symbols.ensures (one-made a.carriers a.bits a.coded (mul-pos c.requires.2 c.requires.0))

@@ -1,4 +1,8 @@
 -- What holds of a payload's layout, for the loops that go by it. Assumes nothing.
+use mathlib.Core.Path.{sym, ap, subst, ◌∙◌}
+use mathlib.Core.Logic.{inl, inr}
+use Rattle.std.proofs.Math.Nat.{ℕ_set}
+use lib.Dec.{T, eqb}
 use Rattle.std.specs.Prelude.{◌⊎◌, ◌≡◌, ℕ, zero, ◌+◌, ◌*◌, ◌<◌, ◌≤◌}
 use Rattle.payload_layout.specs.declared.Layout.{Layout}
 use Rattle.payload_layout.specs.Layouts.{items, used_carriers, copy_carriers, group_bits}
@@ -20,6 +24,18 @@ pub record Sound (L : Layout) : Type 0 where
 -- the bits a carrier of BPSK, QPSK or 16QAM
 abbrev pub CarrierBits : ℕ → Type 0
 CarrierBits b = (b ≡ 1) ⊎ (b ≡ 2) ⊎ (b ≡ 4)
+
+-- ... which they are in one way
+pub CarrierBits-prop : (b : ℕ) → IsProp (CarrierBits b)
+CarrierBits-prop b (inl e) (inl f) = ap inl (ℕ_set b 1 e f)
+CarrierBits-prop b (inl e) (inr (inl f)) = absurd (subst (λ (n : ℕ). T (eqb 1 n)) (sym e ∙ f) tt)
+CarrierBits-prop b (inl e) (inr (inr f)) = absurd (subst (λ (n : ℕ). T (eqb 1 n)) (sym e ∙ f) tt)
+CarrierBits-prop b (inr (inl e)) (inl f) = absurd (subst (λ (n : ℕ). T (eqb 2 n)) (sym e ∙ f) tt)
+CarrierBits-prop b (inr (inl e)) (inr (inl f)) = ap inr (ap inl (ℕ_set b 2 e f))
+CarrierBits-prop b (inr (inl e)) (inr (inr f)) = absurd (subst (λ (n : ℕ). T (eqb 2 n)) (sym e ∙ f) tt)
+CarrierBits-prop b (inr (inr e)) (inl f) = absurd (subst (λ (n : ℕ). T (eqb 4 n)) (sym e ∙ f) tt)
+CarrierBits-prop b (inr (inr e)) (inr (inl f)) = absurd (subst (λ (n : ℕ). T (eqb 4 n)) (sym e ∙ f) tt)
+CarrierBits-prop b (inr (inr e)) (inr (inr f)) = ap inr (ap inr (ℕ_set b 4 e f))
 
 -- A small one: what its numbers stay below. Of more than one copy a group has few bits, and the interleavers few carriers.
 pub record Small (L : Layout) : Type 0 where

@@ -6,5 +6,5 @@ use Rattle.printed_card.proofs.refused_line.Goals as goal
 
 pub returns : goal.returns
 returns c =
-    let named = ap (λ k. line (ascii "refused") (decimal k)) c.number_of.ensures in
+    let named = ap (λ k. line (ascii "refused") (decimal k)) c.number.ensures in
     holds_as _ _ _ (holds_more _ _ _ _ c.blank.ensures c.with_number.ensures) (named ∙ sym (text-refusal c.args.r))

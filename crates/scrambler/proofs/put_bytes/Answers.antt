@@ -1,37 +1,35 @@
--- `scrambler::put_bytes` meets its contract: the bytes that follow are written over those before them too. Assumes nothing.
-use mathlib.Core.Path.{ap, ◌∙◌}
-use native.Mathlib.Omega.{arith}
-use Rattle.bits.specs.Lists.{written}
-use Rattle.bits.proofs.ListLaws.{written_over}
+-- `scrambler::put_bytes` meets its contract: the bytes that follow are put after those before them. Assumes nothing.
+use Rattle.std.proofs.Common.{◌≡◌, ℕ, ◌++◌, ◌<◌, List, length, get_or, ◌∙◌, rules, arith, get_or-take}
+use lib.ListN.{get_or-append}
 use Rattle.scrambler.specs.Scrambler.{scrambler_byte}
-use Rattle.scrambler.proofs.ScramblerLaws.{byte-follows-ten, byte-follows-eighty, bytes-held}
-use borrow.Author.Rules.{rules}
+use Rattle.scrambler.proofs.ScramblerLaws.{byte-follows-ten, byte-follows-eighty}
 use Rattle.scrambler.proofs.put_bytes.Goals as goal
 
-pub follow_bytes-requires : goal.follow_bytes-requires
-follow_bytes-requires c =
-    let e = c.step_bytes-2.ensures in
-    record { some = omega arith; near_le = omega arith; far-le = omega arith; from_le = search rules; room = search rules; first = bytes-held 10 _ _ e; follows = byte-follows-ten }
+-- the first bytes are there, whatever stands after them
+there : (first rest : List ℕ) → ((k : ℕ) → k < length first → get_or first k 0 ≡ scrambler_byte k)
+    → (k : ℕ) → k < length first → get_or (first ++ rest) k 0 ≡ scrambler_byte k
+there first rest held k h = get_or-append first rest 0 k h ∙ held k h
 
-pub returns-then-count-lt80 : goal.returns-then-count-lt80
-returns-then-count-lt80 c =
-    let count = c.args.count in
-    c.follow_bytes.ensures ∙ ap (written count scrambler_byte) c.step_bytes-2.ensures
-    ∙ written_over 10 count scrambler_byte scrambler_byte _ (omega arith)
+pub follow_bytes-requires : goal.follow_bytes-requires
+follow_bytes-requires c = record {
+  some = omega arith;
+  near_le = omega arith;
+  first = λ k h l. there _ _ c.step_bytes-2.ensures k (search rules);
+  follows = byte-follows-ten;
+}
 
 pub follow_bytes-requires-2 : goal.follow_bytes-requires-2
-follow_bytes-requires-2 c =
-    let e = c.step_bytes-2.ensures in
-    record { some = omega arith; near_le = omega arith; far-le = omega arith; from_le = search rules; room = search rules; first = bytes-held 10 _ _ e; follows = byte-follows-ten }
+follow_bytes-requires-2 c = record {
+  some = omega arith;
+  near_le = omega arith;
+  first = λ k h l. get_or-take 80 _ k 0 (omega arith) ∙ there _ _ c.step_bytes-2.ensures k (search rules);
+  follows = byte-follows-ten;
+}
 
 pub follow_bytes-requires-3 : goal.follow_bytes-requires-3
-follow_bytes-requires-3 c =
-    let e = c.follow_bytes-2.ensures in
-    record { some = omega arith; near_le = omega arith; far-le = omega arith; from_le = search rules; room = search rules; first = bytes-held 80 _ _ e; follows = byte-follows-eighty }
-
-pub returns : goal.returns
-returns c =
-    let count = c.args.count in
-    c.follow_bytes-3.ensures ∙ ap (written count scrambler_byte) (c.follow_bytes-2.ensures ∙ ap (written 80 scrambler_byte) c.step_bytes-2.ensures)
-    ∙ ap (written count scrambler_byte) (written_over 10 80 scrambler_byte scrambler_byte _ (omega arith))
-    ∙ written_over 80 count scrambler_byte scrambler_byte _ (omega arith)
+follow_bytes-requires-3 c = record {
+  some = omega arith;
+  near_le = omega arith;
+  first = λ k h l. there _ _ c.follow_bytes-2.ensures k (search rules);
+  follows = byte-follows-eighty;
+}

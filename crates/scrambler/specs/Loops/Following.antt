@@ -3,12 +3,9 @@ use Rattle.std.specs.Prelude.{◌≡◌, List, ℕ, ◌-◌, ◌<◌, ◌≤◌,
 use Rattle.std.specs.Int.Bits.{bit_xor}
 use Rattle.scrambler.specs.Scrambler.{scrambler_byte}
 
--- what following asks: the first `from` bytes are there, and each byte is the exclusive-or of those `far` and `near` before it
-pub record Following (from far near count : ℕ) (out : List ℕ) : Type 0 where
+-- what following asks: the first `far` bytes are there, and each byte is the exclusive-or of those `far` and `near` before it
+pub record Following (far near : ℕ) (out : List ℕ) : Type 0 where
   pub some : 0 < near
   pub near_le : near ≤ far
-  pub far-le : far ≤ from
-  pub from_le : from ≤ count
-  pub room : count ≤ length out
-  pub first : (k : ℕ) → k < from → get_or out k 0 ≡ scrambler_byte k
+  pub first : (k : ℕ) → k < far → k < length out → get_or out k 0 ≡ scrambler_byte k
   pub follows : (i : ℕ) → far ≤ i → bit_xor (scrambler_byte (i - far)) (scrambler_byte (i - near)) ≡ scrambler_byte i

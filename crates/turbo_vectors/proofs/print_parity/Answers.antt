@@ -15,8 +15,8 @@ encode-requires g c = (
 pub slice_bounds-out-end : goal.slice_bounds-out-end
 slice_bounds-out-end g c = omega (arith, kept-le c.args.kind c.args.rate, few-pairs c.args.kind c.requires.0)
 
-pub slice_bounds-put-end : goal.slice_bounds-put-end
-slice_bounds-put-end g c =
+pub slice_bounds-write_all-end : goal.slice_bounds-write_all-end
+slice_bounds-write_all-end g c =
     let within : c.kept_count-n.result ≤ length c.to_text.new.bits =
     omega (arith, kept-le c.args.kind c.args.rate, few-pairs c.args.kind c.requires.0) in
     sym (length-take-le _ _ within)

@@ -6,7 +6,7 @@ use Rattle.diversity.proofs.Symbols.copy_items.Goals as goal
 
 pub loop-run-init : goal.loop-run-init
 loop-run-init c =
-    let start : c.into_iter-run-iterator.result.carrier ≡ 0 = search rules in
+    let start : c.into_iter-run-iterator.result.item ≡ 0 = search rules in
     (search rules, refl, written_all _ _ _ _ _ (written_none _ _) (omega arith))
 
 pub loop-run-preserved : goal.loop-run-preserved

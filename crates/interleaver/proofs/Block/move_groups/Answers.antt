@@ -19,54 +19,44 @@ done : (g : Over) (c : After-loop-pass g)
     → data_place c.args.self.now.shape c.loop-pass.at.nibble ≡ c.args.self.now.shape.rows
 done g c =
     let l = c.args.self.now.shape in
-    let e : c.loop-pass.pass ≡ l.step = omega (arith, c.loop-pass.auto.pass-end, c.loop-pass-test.false) in
-    c.loop-pass.invariant.1 ∙ ap (λ (j : ℕ). length (passes l.rows l.step j)) e ∙ passes-all l.rows l.step c.args.self.now.orderly.step-pos
+    let e : c.loop-pass.pass ≡ l.step = omega arith in
+    c.loop-pass.invariant.place ∙ ap (λ (j : ℕ). length (passes l.rows l.step j)) e ∙ passes-all l.rows l.step c.args.self.now.orderly.step-pos
 
 pub loop-pass-init : goal.loop-pass-init
 loop-pass-init g c =
     let l = c.args.self.now.shape in
-    let (places, rows, left) = counts_start l c.args.self.now.orderly in (
-      record {
+    let (places, rows, left) = counts_start l c.args.self.now.orderly in
+    record {
+      stands = record {
         within = omega arith;
         left_is = sym left;
         row_is = continuous-start l.parity l.step l.offset c.args.self.now.near.offset-lt
             ∙ ap (continuous_row l.parity l.step l.offset) (sym rows);
-      },
-      places ∙ passes_none l.rows l.step c.args.self.now.orderly.step-pos,
-      carried_none l _ c.args.self.now.from.now 0 c.args.to.now,
-    )
-
-pub move_pass-at-requires : goal.move_pass-at-requires
-move_pass-at-requires g c =
-    let p = c.requires in
-    (omega arith, p.1, record { stands = c.loop-pass.invariant.0; pass-lt = c.loop-pass-test.true; place_is = c.loop-pass.invariant.1 })
+      };
+      place = places ∙ passes_none l.rows l.step c.args.self.now.orderly.step-pos;
+      moved = carried_none _ _ _ _ _;
+    }
 
 pub loop-pass-preserved : goal.loop-pass-preserved
-loop-pass-preserved g c = (
-  c.move_pass-at.ensures.stands.1,
-  c.move_pass-at.ensures.stands.2,
-  carried-join c.args.self.now.shape _ c.args.self.now.from.now 0 c.loop-pass.at.nibble c.move_pass-at.result.nibble c.args.to.now _ _ (omega arith)
-      c.move_pass-at.ensures.stands.0 c.loop-pass.invariant.2 c.move_pass-at.ensures.moved,
-)
-
-pub overflow_add-self : goal.overflow_add-self
-overflow_add-self g c = omega (arith, c.args.self.now.small)
-
-pub move_parity-requires : goal.move_parity-requires
-move_parity-requires g c =
-    let p = c.requires in
-    (omega arith, p.1, c.loop-pass.invariant.0, c.if-at-self.true)
+loop-pass-preserved g c =
+    let (up, stands, place) = c.move_pass-at.ensures.stands in
+    record {
+      stands = stands;
+      place = place;
+      moved = carried-join _ _ _ 0 c.loop-pass.at.nibble c.move_pass-at.result.nibble _ _ _ c.loop-pass.invariant.moved c.move_pass-at.ensures.moved (omega arith) up;
+    }
 
 pub returns-then-at-self : goal.returns-then-at-self
 returns-then-at-self g c =
+    let block = c.args.self.now in
     let n = c.loop-pass.at.nibble in
-    let (is, last) = stream_end c.args.self.now.shape c.args.self.now.orderly n c.if-at-self.true (done g (goal.at.returns-then-at-self g c).After-loop-pass) in
+    let (is, last) = stream_end block.shape block.orderly n c.if-at-self.true (done g (goal.at.returns-then-at-self g c).After-loop-pass) in
     let e : c.move_parity.result.nibble ≡ n + 1 = rw is at c.move_parity.ensures.stands.0 in
-    carried-join c.args.self.now.shape _ c.args.self.now.from.now 0 n c.move_parity.result.nibble c.args.to.now _ _ (omega arith) (omega (arith, e))
-    c.loop-pass.invariant.2 c.move_parity.ensures.moved
-    ∙ ap (λ (k : ℕ). carried c.args.self.now.shape (flag g.row.BACK) c.args.self.now.from.now 0 k c.args.to.now) (e ∙ last)
+    carried-join _ _ _ 0 n c.move_parity.result.nibble _ _ _ c.loop-pass.invariant.moved c.move_parity.ensures.moved (omega arith) (omega (arith, e))
+    ∙ ap (λ (k : ℕ). carried block.shape (flag g.row.BACK) block.from.now 0 k c.args.to.now) (e ∙ last)
 
 pub returns-else-at-self : goal.returns-else-at-self
 returns-else-at-self g c =
-    let e : c.loop-pass.at.nibble ≡ c.args.self.now.shape.rows + c.args.self.now.shape.parity = omega (arith, c.loop-pass.invariant.0.within, c.if-at-self.false) in
-    c.loop-pass.invariant.2 ∙ ap (λ (k : ℕ). carried c.args.self.now.shape (flag g.row.BACK) c.args.self.now.from.now 0 k c.args.to.now) e
+    let block = c.args.self.now in
+    let e : c.loop-pass.at.nibble ≡ block.shape.rows + block.shape.parity = omega (arith, c.loop-pass.invariant.stands.within) in
+    c.loop-pass.invariant.moved ∙ ap (λ (k : ℕ). carried block.shape (flag g.row.BACK) block.from.now 0 k c.args.to.now) e

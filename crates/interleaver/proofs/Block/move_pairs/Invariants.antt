@@ -8,4 +8,7 @@ use Rattle.interleaver.proofs.Block.move_pairs.Given as goal
 
 abbrev pub invariant-loop-pass : goal.invariant-loop-pass
 invariant-loop-pass g l =
-    (l.nibble ≡ length (passes l.self.shape.rows l.self.shape.step l.pass) * 2) × (l.to ≡ carried l.self.shape (flag g.row.BACK) l.self.from.now 0 l.nibble l.initial.to)
+    record {
+      place : l.nibble ≡ length (passes l.self.shape.rows l.self.shape.step l.pass) * 2;
+      moved : l.to ≡ carried l.self.shape (flag g.row.BACK) l.self.from.now 0 l.nibble l.initial.to;
+    }

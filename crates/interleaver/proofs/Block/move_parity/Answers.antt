@@ -36,14 +36,8 @@ returns-then-at-gt0 g c =
     data-due c.args.self.now.shape c.args.self.now.orderly at.nibble (omega (arith, c.requires.2.left_is)) in
     record {
       stands = (rw t (omega arith), c.requires.2, c.if-at-gt0.true);
-      moved = carried_none c.args.self.now.shape _ c.args.self.now.from.now at.nibble c.args.to.now;
+      moved = carried_none _ _ _ _ _;
     }
-
-pub overflow_add-self : goal.overflow_add-self
-overflow_add-self g c = omega (arith, due g (goal.at.overflow_add-self g c).Else-at-gt0, c.args.self.now.small)
-
-pub overflow_mul-self : goal.overflow_mul-self
-overflow_mul-self g c = omega (arith, due g (goal.at.overflow_mul-self g c).Else-at-gt0, c.args.self.now.small)
 
 pub move_nibble-requires : goal.move_nibble-requires
 move_nibble-requires g c =
@@ -79,6 +73,5 @@ returns g c =
         },
         c.args.self.now.orderly.group-pos,
       );
-      moved = carried-one l _ c.args.self.now.from.now n (l.rows + at.row) c.args.to.now _ e
-          c.move_nibble.ensures;
+      moved = carried-one l _ _ n (l.rows + at.row) _ _ e c.move_nibble.ensures;
     }

@@ -1,2 +1,0 @@
--- What the contracts of `command` cite. Assumes nothing.
-pub mod Counts

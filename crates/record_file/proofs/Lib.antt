@@ -1,2 +1,0 @@
--- What the proofs of `record_file` share. Assumes nothing.
-mod ReadingLaws
