@@ -38,6 +38,7 @@ fn split(src: &[u8], base: u8, out: &mut [u8])
     requires { (0 < base) × (length src.now < 2081) × (length out.old ≡ 2 * length src.now) }
     ensures { EachIndex out.new (λ t. slice_index out.new t ≡ digit_of base src.now t) }
 {
+    // By index, since nothing is known of what a zip with `chunks_exact_mut` wrote.
     for (i, x) in src.iter().enumerate() {
         out[2 * i] = *x / base % base;
         out[2 * i + 1] = *x % base;
@@ -95,6 +96,7 @@ fn gather(places: &[u16], list: &[u8], out: &mut [u8])
     requires { Gathering places.now list.now out.old }
     ensures { EachIndex out.new (λ i. slice_index out.new i ≡ four_from (picked places.now list.now) i) }
 {
+    // By index, since nothing is known of what a zip of `iter_mut` and `chunks_exact` wrote.
     for (i, byte) in out.iter_mut().enumerate() {
         *byte = constituent::four(
             pick(places, list, 4 * i),
