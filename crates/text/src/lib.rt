@@ -60,8 +60,8 @@ impl<const N: usize> Text<N> {
         ensures { self.new ≡ self.old ++ decimal n }
     {
         let places = (1..20).find(|k| n < 10u64.pow(*k)).unwrap_or(20);
-        for i in 0..places {
-            self.push(&[b'0' + (n / 10u64.pow(places - 1 - i) % 10) as u8]);
+        for place in (0..places).rev() {
+            self.push(&[b'0' + (n / 10u64.pow(place) % 10) as u8]);
         }
     }
 

@@ -17,9 +17,13 @@ use Rattle.printed_card.proofs.card_lines.Goals.{After-push_number-5, After-push
 mode : (c : After-push_number-5) → c.push_number-5.new.self ≡ mode_lines c.args.c
 unfolding mode_lines
 mode c =
-    let version = line (ascii "version") (decimal c.args.c.version) in
-    let first : c.push_number.new.self ≡ version = c.push_number.ensures ∙ ap (λ (t : List ℕ). t ++ version) c.new-text.ensures in
-    cc
+    let card = c.args.c in
+    let next = λ (name : List ℕ) (n : ℕ) (t : List ℕ). t ++ line name (decimal n) in
+    let version = c.push_number.ensures ∙ ap (next (ascii "version") card.version) c.new-text.ensures in
+    let band = c.push_number-2.ensures ∙ ap (next (ascii "band") card.band) version in
+    let kind = c.push_number-3.ensures ∙ ap (next (ascii "kind") card.kind) band in
+    let rate = c.push_number-4.ensures ∙ ap (next (ascii "rate") card.rate) kind in
+    c.push_number-5.ensures ∙ ap (next (ascii "modulation") card.modulation) rate
 
 -- the mode's lines and the taps'
 taps : (c : After-push_line) → c.push_number-5.new.self ≡ mode_lines c.args.c

@@ -22,35 +22,40 @@ counted g c =
     ∙ places-found c.args.n c.find.result
     (first_from_Range _ _ _ _ (λ i. c.args.n < 10 ^ i) (λ i. 10 ^ i ≤ c.args.n) c.find.ensures.ran (λ x q k. search (rules, tests)) (λ x q k. search (rules, tests)))
 
-pub loop-i-init : goal.loop-i-init
+pub loop-place-init : goal.loop-place-init
 unfolding tabulate
-loop-i-init g c = sym (append-nil _)
+loop-place-init g c =
+    let none : 0 ≡ places c.args.n - c.unwrap_or-places.result = omega (arith, counted g c) in
+    sym (append-nil _) ∙ ap (λ (m : ℕ). c.args.self.now ++ tabulate m (digit_of c.args.n)) none
 
 pub pow-requires : goal.pow-requires
 pow-requires g c =
     let few = (places-le c.args.n).1 in
-    power-lt (c.unwrap_or-places.result - 1 - c.loop-i.i) (omega (arith, counted g (goal.at.pow-requires g c).After-unwrap_or-places))
+    power-lt (c.loop-place.place - 1) (omega (arith, counted g (goal.at.pow-requires g c).After-unwrap_or-places))
 
 pub nonzero_div-n : goal.nonzero_div-n
-nonzero_div-n g c = omega (arith, c.pow.ensures, power-pos (c.unwrap_or-places.result - 1 - c.loop-i.i))
+nonzero_div-n g c = omega (arith, c.pow.ensures, power-pos (c.loop-place.place - 1))
 
 pub push-requires : goal.push-requires
 push-requires g c =
-    let so_far = ap length c.loop-i.invariant in
-    (omega arith, omega (arith, so_far, length-append {A = ℕ}, length-tabulate c.loop-i.i (digit_of c.args.n), counted g (goal.at.push-requires g c).After-unwrap_or-places))
+    let so_far = ap length c.loop-place.invariant in
+    let digits = length-tabulate (places c.args.n - c.loop-place.place) (digit_of c.args.n) in
+    (omega arith, omega (arith, so_far, digits, length-append {A = ℕ}, counted g (goal.at.push-requires g c).After-unwrap_or-places))
 
-pub loop-i-preserved : goal.loop-i-preserved
-loop-i-preserved g c =
+pub loop-place-preserved : goal.loop-place-preserved
+loop-place-preserved g c =
     let n = c.args.n in
-    let i = c.loop-i.i in
-    tabulated-next (digit_of n) i _ _ _ _ c.loop-i.invariant c.push.ensures
-    (ap (λ (p : ℕ). 48 + n / p % 10) c.pow.ensures
-    ∙ ap (λ (m : ℕ). 48 + n / 10 ^ (m - 1 - i) % 10) (counted g (goal.at.loop-i-preserved g c).After-unwrap_or-places))
+    let place : ℕ = c.loop-place.place in
+    let found = counted g (goal.at.loop-place-preserved g c).After-unwrap_or-places in
+    let power : place - 1 ≡ places n - 1 - (places n - place) = omega (arith, found) in
+    let more : places n - place + 1 ≡ places n - (place - 1) = omega (arith, found) in
+    tabulated-next (digit_of n) (places n - place) _ _ _ _ c.loop-place.invariant c.push.ensures
+    (ap (λ (p : ℕ). 48 + n / p % 10) (c.pow.ensures ∙ ap (λ (m : ℕ). 10 ^ m) power))
+    ∙ ap (λ (m : ℕ). c.args.self.now ++ tabulate m (digit_of n)) more
 
 pub returns : goal.returns
 unfolding decimal
 returns g c =
     let n = c.args.n in
-    let found = counted g (goal.at.returns g c).After-unwrap_or-places in
-    let all : c.loop-i.i ≡ places n = omega (arith, found) in
-    c.loop-i.invariant ∙ ap (λ (m : ℕ). c.args.self.now ++ tabulate m (digit_of n)) all
+    let all : places n - c.loop-place.place ≡ places n = omega arith in
+    c.loop-place.invariant ∙ ap (λ (m : ℕ). c.args.self.now ++ tabulate m (digit_of n)) all
