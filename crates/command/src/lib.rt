@@ -123,6 +123,6 @@ pub fn put_refusal(rt: &impl Print, r: Refusal) -> io::Result<usize>
 {
     let text = job::refusal_lines(r);
     let lines = text.as_bytes();
-    output::put(rt, lines)?;
+    rt.write_all(lines)?;
     Ok(lines.len())
 }
