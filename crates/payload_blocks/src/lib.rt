@@ -4,132 +4,115 @@
 // Internal: nothing here is a public entry, and callers show what a function requires.
 #![tactic(auto)]
 
-ghost use Rattle.std.specs.Prelude.{◌≡◌, ◌*◌, ◌≤◌, ◌<◌, length, get_or};
+ghost use Rattle.std.specs.Prelude.{◌≡◌, ◌*◌, ◌<◌, ◌≤◌, length, get_or};
 ghost use Rattle.bits.specs.Lists.{written};
 ghost use Rattle.refusal.specs.Report.{answer, done};
-ghost use Rattle.card.specs.Modes.{block_bytes, Defined};
+ghost use Rattle.card.specs.Modes.{block_bytes};
 ghost use Rattle.interleaver_shape.specs.Shapes.{coded_bits};
 ghost use Rattle.payload_blocks.specs.Blocks.{block_bit, joined_bit, recovered_all};
 ghost use Rattle.payload_blocks.specs.Loops.Parts.{scrambled_byte, descrambled_byte};
 
+use coding::Coding;
 use refusal::Refusal;
 
-// ---- sending
+// The blocks of a payload: how each is coded, and how many there are.
+#[derive(Clone, Copy)]
+pub struct Blocks {
+    pub coding: Coding,
+    pub count: usize,
+    pub ghost few: { count ≤ 4 },
+}
 
 // The coded bits of one block, which is scrambled before, at the start of `out`.
-fn encode_block(kind: usize, rate: usize, taps: u16, block: &[u8], out: &mut [u8])
-    requires { (Defined kind rate) × (length block.now ≡ block_bytes kind) × (coded_bits kind rate ≤ length out.old) }
-    ensures { out.new ≡ written (coded_bits kind rate) (block_bit kind rate taps block.now) out.old }
+fn encode_block(coding: Coding, block: &[u8], out: &mut [u8])
+    requires { (length block.now ≡ block_bytes coding.kind) × (coded_bits coding.kind coding.rate ≤ length out.old) }
+    ensures { out.new ≡ written (coded_bits coding.kind coding.rate) (block_bit coding.kind coding.rate coding.taps block.now) out.old }
 {
     let size = block.len();
     let mut scrambled = [0u8; 520];
     scrambler::scramble(block, &mut scrambled);
-    fec::encode(kind, rate, taps, &scrambled[..size], out);
+    fec::encode(coding, &scrambled[..size], out);
 }
 
-// The joined coded bits of a payload's blocks, at the start of `out`.
-pub fn encode(kind: usize, rate: usize, taps: u16, blocks: usize, payload: &[u8], out: &mut [u8])
-    requires { (Defined kind rate) × (blocks ≤ 4) × (length payload.now ≡ blocks * block_bytes kind) × (blocks * coded_bits kind rate ≤ length out.old) }
-    ensures { out.new ≡ written (blocks * coded_bits kind rate) (joined_bit kind rate taps payload.now) out.old }
-{
-    let size = card::block_bytes(kind);
-    let count = interleaver_shape::coded_bits(kind, rate);
-    let mut from: usize = 0;
-    let mut at: usize = 0;
-    let mut b: usize = 0;
-    while b < blocks {
-        let end = from + size;
-        encode_block(kind, rate, taps, &payload[from..end], &mut out[at..]);
-        from = end;
-        at += count;
-        b += 1;
+impl Blocks {
+    // The joined coded bits of the blocks, at the start of `out`.
+    pub fn encode(self, payload: &[u8], out: &mut [u8])
+        requires { (length payload.now ≡ self.count * block_bytes self.coding.kind) × (self.count * coded_bits self.coding.kind self.coding.rate ≤ length out.old) }
+        ensures { out.new ≡ written (self.count * coded_bits self.coding.kind self.coding.rate)
+            (joined_bit self.coding.kind self.coding.rate self.coding.taps payload.now) out.old }
+    {
+        let size = self.coding.block_bytes();
+        let bits = interleaver_shape::coded_bits(self.coding);
+        for b in 0..self.count {
+            let from = b * size;
+            let end = from + size;
+            let at = b * bits;
+            encode_block(self.coding, &payload[from..end], &mut out[at..]);
+        }
     }
-}
 
-// ---- reading
-
-// The bytes of every block as it was coded, one after the other at the start of `bytes`, or the refusal of the lowest block that has one.
-fn recover_scrambled(
-    kind: usize,
-    rate: usize,
-    taps: u16,
-    blocks: usize,
-    decided: &[u8],
-    bytes: &mut [u8],
-) -> Result<usize, Refusal>
-    requires { (Defined kind rate) × (blocks ≤ 4) × (length decided.now ≡ blocks * coded_bits kind rate) × (blocks * block_bytes kind ≤ length bytes.old) }
-    ensures answer { answer result ≡ (recovered_all kind rate taps blocks (λ x. get_or decided.now x 0) bytes.old).report }
-    ensures bytes { answer result ≡ done (blocks * block_bytes kind) → bytes.new ≡ written (blocks * block_bytes kind)
-        (scrambled_byte kind rate (λ x. get_or decided.now x 0)) bytes.old }
-{
-    let size = card::block_bytes(kind);
-    let count = interleaver_shape::coded_bits(kind, rate);
-    let mut from: usize = 0;
-    let mut at: usize = 0;
-    let mut b: usize = 0;
-    while b < blocks {
-        let end = from + count;
-        recovery::recover(kind, rate, taps, &decided[from..end], &mut bytes[at..])?;
-        from = end;
-        at += size;
-        b += 1;
+    // The bytes of every block as it was coded, one after the other at the start of `bytes`, or the refusal of the lowest block that has
+    // one.
+    fn recover_scrambled(self, decided: &[u8], bytes: &mut [u8]) -> Result<usize, Refusal>
+        requires { (length decided.now ≡ self.count * coded_bits self.coding.kind self.coding.rate) × (self.count * block_bytes self.coding.kind ≤ length bytes.old) }
+        ensures answer { answer result
+            ≡ (recovered_all self.coding.kind self.coding.rate self.coding.taps self.count (λ x. get_or decided.now x 0) bytes.old).report }
+        ensures bytes { answer result ≡ done (self.count * block_bytes self.coding.kind) → bytes.new ≡ written (self.count * block_bytes self.coding.kind)
+            (scrambled_byte self.coding.kind self.coding.rate (λ x. get_or decided.now x 0)) bytes.old }
+    {
+        let size = self.coding.block_bytes();
+        let bits = interleaver_shape::coded_bits(self.coding);
+        for b in 0..self.count {
+            let from = b * bits;
+            let end = from + bits;
+            let at = b * size;
+            recovery::recover(self.coding, &decided[from..end], &mut bytes[at..])?;
+        }
+        Ok(self.count * size)
     }
-    Ok(at)
-}
 
-// Each of the blocks of `size` bytes, descrambled, one after the other at the start of `out`.
-fn descramble(size: usize, blocks: usize, bytes: &[u8], out: &mut [u8])
-    requires { (0 < size) × (size ≤ 520) × (blocks ≤ 4) × (length bytes.now ≡ blocks * size) × (blocks * size ≤ length out.old) }
-    ensures { out.new ≡ written (blocks * size) (descrambled_byte size bytes.now) out.old }
-{
-    let mut at: usize = 0;
-    let mut b: usize = 0;
-    while b < blocks {
-        let end = at + size;
-        scrambler::scramble(&bytes[at..end], &mut out[at..]);
-        at = end;
-        b += 1;
+    // Each of the blocks, descrambled, one after the other at the start of `out`.
+    fn descramble(self, bytes: &[u8], out: &mut [u8])
+        requires { (length bytes.now ≡ self.count * block_bytes self.coding.kind) × (self.count * block_bytes self.coding.kind ≤ length out.old) }
+        ensures { out.new ≡ written (self.count * block_bytes self.coding.kind) (descrambled_byte (block_bytes self.coding.kind) bytes.now) out.old }
+    {
+        let size = self.coding.block_bytes();
+        for b in 0..self.count {
+            let at = b * size;
+            let end = at + size;
+            scrambler::scramble(&bytes[at..end], &mut out[at..]);
+        }
     }
-}
 
-// The payload by way of the blocks' bytes as they were coded, of which none goes to `out` before all blocks are good.
-fn recover_by(
-    kind: usize,
-    rate: usize,
-    taps: u16,
-    blocks: usize,
-    decided: &[u8],
-    bytes: &mut [u8],
-    out: &mut [u8],
-) -> Result<usize, Refusal>
-    requires defined { (Defined kind rate) × (blocks ≤ 4) × (length decided.now ≡ blocks * coded_bits kind rate) }
-    requires kind_in_bounds { (blocks * block_bytes kind ≤ length bytes.old) × (blocks * block_bytes kind ≤ length out.old) }
-    ensures answer { answer result ≡ (recovered_all kind rate taps blocks (λ x. get_or decided.now x 0) out.old).report }
-    ensures payload { out.new ≡ (recovered_all kind rate taps blocks (λ x. get_or decided.now x 0) out.old).out }
-{
-    let n = recover_scrambled(kind, rate, taps, blocks, decided, bytes)?;
-    descramble(card::block_bytes(kind), blocks, &bytes[..n], out);
-    Ok(n)
-}
-
-// The payload of the decided joined bits, at the start of `out`, or refusal 7 or 8 of the lowest block that has one. One block has a
-// shorter array, since a longer one takes longer to clear.
-pub fn recover(
-    kind: usize,
-    rate: usize,
-    taps: u16,
-    blocks: usize,
-    decided: &[u8],
-    out: &mut [u8],
-) -> Result<usize, Refusal>
-    requires { (Defined kind rate) × (blocks ≤ 4) × (length decided.now ≡ blocks * coded_bits kind rate) × (blocks * block_bytes kind ≤ length out.old) }
-    ensures answer { answer result ≡ (recovered_all kind rate taps blocks (λ x. get_or decided.now x 0) out.old).report }
-    ensures payload { out.new ≡ (recovered_all kind rate taps blocks (λ x. get_or decided.now x 0) out.old).out }
-{
-    if blocks == 1 {
-        let mut bytes = [0u8; 520];
-        return recover_by(kind, rate, taps, blocks, decided, &mut bytes, out);
+    // The payload by way of the blocks' bytes as they were coded, of which there are at most N, and none goes to `out` before all blocks are
+    // good.
+    fn recover_by<const N: usize>(self, decided: &[u8], out: &mut [u8]) -> Result<usize, Refusal>
+        requires decided { (length decided.now ≡ self.count * coded_bits self.coding.kind self.coding.rate) × (self.count * block_bytes self.coding.kind ≤ length out.old) }
+        requires room { (self.count * block_bytes self.coding.kind ≤ N) × (N < 65536) }
+        ensures answer { answer result
+            ≡ (recovered_all self.coding.kind self.coding.rate self.coding.taps self.count (λ x. get_or decided.now x 0) out.old).report }
+        ensures payload { out.new
+            ≡ (recovered_all self.coding.kind self.coding.rate self.coding.taps self.count (λ x. get_or decided.now x 0) out.old).out }
+    {
+        let mut bytes = [0u8; N];
+        let n = self.recover_scrambled(decided, &mut bytes)?;
+        self.descramble(&bytes[..n], out);
+        Ok(n)
     }
-    let mut bytes = [0u8; 2080];
-    recover_by(kind, rate, taps, blocks, decided, &mut bytes, out)
+
+    // The payload of the decided joined bits, at the start of `out`, or refusal 7 or 8 of the lowest block that has one. One block has a
+    // shorter array, since a longer one takes longer to clear.
+    pub fn recover(self, decided: &[u8], out: &mut [u8]) -> Result<usize, Refusal>
+        requires { (length decided.now ≡ self.count * coded_bits self.coding.kind self.coding.rate) × (self.count * block_bytes self.coding.kind ≤ length out.old) }
+        ensures answer { answer result
+            ≡ (recovered_all self.coding.kind self.coding.rate self.coding.taps self.count (λ x. get_or decided.now x 0) out.old).report }
+        ensures payload { out.new
+            ≡ (recovered_all self.coding.kind self.coding.rate self.coding.taps self.count (λ x. get_or decided.now x 0) out.old).out }
+    {
+        if self.count == 1 {
+            self.recover_by::<520>(decided, out)
+        } else {
+            self.recover_by::<2080>(decided, out)
+        }
+    }
 }

@@ -1,5 +1,5 @@
 -- Laws of a symbol: its slots carry the groups that stand there, and its unused carriers nothing. Assumes nothing.
-use mathlib.Core.Path.{◌≡◌, sym, ap, ap₂, ◌∙◌}
+use mathlib.Core.Path.{◌≡◌, subst, sym, ap, ap₂, ◌∙◌}
 use mathlib.Core.Bool.{Bool, true, false, cond, ◌&&◌}
 use Prim.Native.Nat.{ℕ, ◌+◌, ◌-◌, ◌*◌, ◌/◌, ◌%◌, ◌<◌, ◌≤◌}
 use native.Mathlib.Nat.{mul_assoc, mul_comm, add-mul, mod-lt, div-add-mod', div-lt_iff_lt-mul, lt_of_mul-lt-mul_right, mul-le-mul_right}
@@ -100,16 +100,48 @@ module _ (L : Layout) (z : Slotted L) where
 
 -- ---- a walk over all slots
 
+-- the symbol where a walk has come to place p
+abbrev pub symbol_at : Layout → Place → ℕ
+symbol_at L p = slot_no L p / L.copies
+
+-- it is the one that the walk says
+settled : (L : Layout) (p : Place) (y j n : ℕ) → Walking L p y j n → Walking L p (symbol_at L p) j n
+settled L p y j n w = subst (λ (k : ℕ). Walking L p k j n) (sym (ap (λ (t : ℕ). t / L.copies) w.number ∙ digits_div y w.lane_in)) w
+
+pub walk-first : (L : Layout) → Slotted L → (p : Place) → Standing L p → slot_no L p ≡ 0 * L.symbols → Walking L p (symbol_at L p) 0 0
+walk-first L z p at number =
+    settled L p 0 0 0 (record {
+      standing = at;
+      number = omega (arith, number);
+      lane_in = z.laid.sound.copies-pos;
+      number_in = omega arith;
+      start-is = omega arith;
+    })
+
 module _ (L : Layout) (z : Slotted L) (p : Place) (y j n : ℕ) (w : Walking L p y j n) where
-  pub walk-end : y ≡ L.symbols → n ≡ items L
+  pub copy_in : p.copy ≤ L.copies
+  copy_in =
+      lt-cases L.copies p.copy
+      (λ h. absurd (omega (arith, row_within L.copies L.symbols p.copy h, w.number, w.number_in, mul_comm L.symbols L.copies, z.laid.sound.symbols-pos)))
+      (λ h. h)
+
+  pub walk-end : p.copy ≡ L.copies → n ≡ items L
   walk-end e =
-      let rows : y * L.copies ≡ L.symbols * L.copies = ap (λ (k : ℕ). k * L.copies) e in
-      let none : j ≡ 0 = omega (arith, rows, w.number_in) in
-      w.start-is ∙ ap₂ (λ (k l : ℕ). k * symbol_items L + l * group_bits L) e none
+      let all : y * L.copies + j ≡ L.symbols * L.copies + 0 =
+      omega (arith, ap (λ (k : ℕ). k * L.symbols) e, w.number, w.number_in, mul_comm L.symbols L.copies) in
+      let last : y ≡ L.symbols =
+      sym (digits_div y w.lane_in) ∙ ap (λ (k : ℕ). k / L.copies) all ∙ digits_div L.symbols z.laid.sound.copies-pos in
+      let none : j ≡ 0 = omega (arith, all, ap (λ (k : ℕ). k * L.copies) last) in
+      w.start-is ∙ ap₂ (λ (k l : ℕ). k * symbol_items L + l * group_bits L) last none
       ∙ (let k : L.symbols * symbol_items L + 0 * group_bits L ≡ items L = omega (arith, items-rows L z) in k)
 
-  module _ (hy : y < L.symbols) where
-    pub place-in : Within L p
+  module _ (h : p.copy < L.copies) where
+    hy : y < L.symbols
+    hy =
+        lt_of_mul-lt-mul_right L.copies
+        (omega (arith, w.number, row_within p.copy L.symbols L.copies h, w.standing.position_in, mul_comm L.symbols L.copies))
+
+    place-in : Within L p
     place-in = slot-in L z y j p hy w.lane_in w.standing w.number
 
     symbol-end : y * symbol_items L + symbol_items L ≤ items L
@@ -118,27 +150,33 @@ module _ (L : Layout) (z : Slotted L) (p : Place) (y j n : ℕ) (w : Walking L p
     pub walk-room : n + group_bits L ≤ items L
     walk-room = omega (arith, w.start-is, slot-within L z j w.lane_in, symbol-end)
 
-    pub walk-next : (q : Place) → Standing L q → slot_no L q ≡ slot_no L p + 1 → j + 1 < L.copies → Walking L q y (j + 1) (n + group_bits L)
-    walk-next q at next h =
-        record {
+    pub walk-next : (q : Place) → Standing L q → slot_no L q ≡ slot_no L p + 1 → j + 1 < L.copies
+        → Walking L q (symbol_at L q) (j + 1) (n + group_bits L)
+    walk-next q at next lane =
+        settled L q y (j + 1) (n + group_bits L) (record {
           standing = at;
           number = omega (arith, next, w.number);
-          lane_in = h;
-          symbol_in = w.symbol_in;
+          lane_in = lane;
           number_in = omega (arith, row_within y L.copies L.symbols hy);
           start-is = omega (arith, w.start-is, row_next j (group_bits L));
-        }
+        })
 
-    pub walk-row : (q : Place) → Standing L q → slot_no L q ≡ slot_no L p + 1 → L.copies ≤ j + 1 → Walking L q (y + 1) 0 ((y + 1) * symbol_items L)
-    walk-row q at next h =
-        record {
+    -- after a symbol's last slot come the items of its unused carriers
+    row-end : L.copies ≤ j + 1 → (unused : ℕ) → unused + L.copies * group_bits L ≡ symbol_items L → n + group_bits L + unused ≡ (y + 1) * symbol_items L
+    row-end lane unused u =
+        let last : (j + 1) * group_bits L ≡ L.copies * group_bits L = ap (λ (k : ℕ). k * group_bits L) (let e : j + 1 ≡ L.copies = omega (arith, w.lane_in) in e) in
+        omega (arith, w.start-is, row_next j (group_bits L), last, u, row_next y (symbol_items L))
+
+    pub walk-row : (q : Place) → Standing L q → slot_no L q ≡ slot_no L p + 1 → L.copies ≤ j + 1
+        → (unused : ℕ) → unused + L.copies * group_bits L ≡ symbol_items L → Walking L q (symbol_at L q) 0 (n + group_bits L + unused)
+    walk-row q at next lane unused u =
+        settled L q (y + 1) 0 (n + group_bits L + unused) (record {
           standing = at;
           number = omega (arith, next, w.number, w.lane_in, row_next y L.copies);
           lane_in = z.laid.sound.copies-pos;
-          symbol_in = omega arith;
           number_in = omega (arith, row_next y L.copies, row_within y L.copies L.symbols hy);
-          start-is = omega arith;
-        }
+          start-is = omega (arith, row-end lane unused u);
+        })
 
     carries-to : (end : ℕ) → n + group_bits L ≤ end → end ≤ items L → ((m : ℕ) → n + group_bits L ≤ m → m < end → used L m ≡ false)
         → Carries L (record { copy = p.copy; group = p.group; start = n; end = end })
@@ -160,16 +198,16 @@ module _ (L : Layout) (z : Slotted L) (p : Place) (y j n : ℕ) (w : Walking L p
     pub carries-next : Carries L (record { copy = p.copy; group = p.group; start = n; end = n + group_bits L })
     carries-next = carries-to (n + group_bits L) (omega arith) walk-room (λ m l h. absurd (omega arith))
 
-    pub carries-row : L.copies ≤ j + 1 → Carries L (record { copy = p.copy; group = p.group; start = n; end = (y + 1) * symbol_items L })
-    carries-row h =
-        let last : (j + 1) * group_bits L ≡ L.copies * group_bits L = ap (λ (k : ℕ). k * group_bits L) (let e : j + 1 ≡ L.copies = omega (arith, w.lane_in) in e) in
-        let from : n + group_bits L ≡ y * symbol_items L + L.copies * group_bits L = omega (arith, w.start-is, row_next j (group_bits L), last) in
-        carries-to ((y + 1) * symbol_items L)
-        (omega (arith, from, used-bits L z, row_next y (symbol_items L)))
-        (omega (arith, symbol-end, row_next y (symbol_items L)))
+    pub carries-row : L.copies ≤ j + 1 → (unused : ℕ) → unused + L.copies * group_bits L ≡ symbol_items L
+        → Carries L (record { copy = p.copy; group = p.group; start = n; end = n + group_bits L + unused })
+    carries-row lane unused u =
+        let end = row-end lane unused u in
+        let row = row_next y (symbol_items L) in
+        let from : n + group_bits L ≡ y * symbol_items L + L.copies * group_bits L = omega (arith, end, row, u) in
+        carries-to (n + group_bits L + unused) (omega arith) (omega (arith, end, row, symbol-end))
         (λ m l k.
         let at : m ≡ y * symbol_items L + (m - y * symbol_items L) = omega (arith, from) in
-        ap (used L) at ∙ unused-at L z y (m - y * symbol_items L) (omega (arith, row_next y (symbol_items L))) (omega (arith, from)))
+        ap (used L) at ∙ unused-at L z y (m - y * symbol_items L) (omega (arith, end, row)) (omega (arith, from)))
 
 -- ---- the items of a slot
 

@@ -3,7 +3,7 @@
 // Internal: nothing here is a public entry, and callers show what a function requires. `payload_combining` walks the same slots.
 #![tactic(auto)]
 
-ghost use Rattle.std.specs.Prelude.{◌≡◌, ℕ, ◌+◌, ◌-◌, ◌*◌, ◌<◌, ◌≤◌, length, get_or};
+ghost use Rattle.std.specs.Prelude.{◌≡◌, ℕ, ◌+◌, ◌-◌, ◌*◌, ◌/◌, ◌<◌, ◌≤◌, length, get_or};
 ghost use Rattle.std.specs.Iterator.{at_most};
 ghost use Rattle.std.proofs.Props.{props};
 ghost use Rattle.bits.specs.Lists.{written};
@@ -72,6 +72,13 @@ impl Slots {
         self.group_carriers() * self.layout.bits
     }
 
+    // The bits of the unused carriers of a symbol.
+    fn unused_bits(&self) -> usize
+        ensures { result + self.now.layout.copies * group_bits self.now.layout ≡ symbol_items self.now.layout }
+    {
+        self.layout.carriers * self.layout.bits - self.layout.copies * self.group_bits()
+    }
+
     // The order of the carriers in a copy's slots.
     pub fn order(&self, copy: usize) -> &[u16]
         requires { copy < self.now.layout.copies }
@@ -121,50 +128,46 @@ impl Slots {
         Walk {
             slots: self,
             place: self.first_place(0),
-            symbol: 0,
             lane: 0,
             start: 0,
         }
     }
 }
 
-// A walk over the slots: the place of the next one, the symbol and the lane there, and its first item.
+// A walk over the slots: the place of the next one, how many there are before it in its symbol, and its first item.
 #[derive(Drop)]
 pub struct Walk<'a> {
     slots: &'a Slots,
     place: Place,
-    symbol: usize,
     lane: usize,
     start: usize,
-    ghost walking: { Walking slots.now.layout place symbol lane start } by { Prim.hlevel props },
+    ghost walking: { Walking slots.now.layout place (slot_no slots.now.layout place / slots.now.layout.copies) lane start } by { Prim.hlevel props },
 }
 
 impl<'a> Walk<'a> {
     // The walk after the next slot, which ends where that one starts.
     fn after(&self) -> Walk<'a>
-        requires { self.now.symbol < self.now.slots.now.layout.symbols }
+        requires { self.now.place.copy < self.now.slots.now.layout.copies }
         ensures same { result.slots.now.layout ≡ self.now.slots.now.layout }
         ensures carries { Carries self.now.slots.now.layout (record { copy = self.now.place.copy; group = self.now.place.group; start = self.now.start; end = result.start }) }
     {
         let slots = self.slots;
         let place = slots.place_after(self.place);
         let lane = self.lane + 1;
+        let start = self.start + slots.group_bits();
         if lane < slots.layout.copies {
             return Walk {
                 slots,
                 place,
-                symbol: self.symbol,
                 lane,
-                start: self.start + slots.group_bits(),
+                start,
             };
         }
-        let symbol = self.symbol + 1;
         Walk {
             slots,
             place,
-            symbol,
             lane: 0,
-            start: symbol * (slots.layout.carriers * slots.layout.bits),
+            start: start + slots.unused_bits(),
         }
     }
 }
@@ -177,7 +180,7 @@ impl<'a> Iterator for Walk<'a> {
     ghost remaining = { λ s. at_most (items_of s.slots.now.layout - s.start) };
 
     fn next(&mut self) -> Option<Slot> {
-        if self.symbol == self.slots.layout.symbols {
+        if self.place.copy == self.slots.layout.copies {
             return None;
         }
         let Place {

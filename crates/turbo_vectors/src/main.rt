@@ -6,6 +6,7 @@ ghost use Rattle.std.specs.Prelude.{◌≡◌, ◌<◌, length};
 ghost use Rattle.card.specs.Modes.{block_bytes};
 
 use std::io;
+use turbo::Encoder;
 
 const TAPS: [u16; 6] = [0, 1095, 2047, 682, 1365, 731];
 
@@ -30,40 +31,36 @@ fn to_text(bits: &mut [u8]) {
     }
 }
 
-fn print_parity(
-    rt: &impl Print,
-    kind: usize,
-    rate: usize,
-    taps: u16,
-    bytes: &[u8],
-) -> io::Result<()>
-    requires { (kind < 5) × (rate < 2) × (length bytes.now ≡ block_bytes kind) }
+fn print_parity(rt: &impl Print, encoder: Encoder, bytes: &[u8]) -> io::Result<()>
+    requires { length bytes.now ≡ block_bytes encoder.kind }
 {
     let mut packed = [0u8; 520];
-    turbo::encode(kind, rate, taps, bytes, &mut packed);
+    encoder.encode(bytes, &mut packed);
     let mut out = [0u8; 4160];
     bits::unpack(&packed, &mut out);
     to_text(&mut out);
-    let n = turbo::kept_count(kind, rate);
+    let n = encoder.kept_count();
     rt.write_all(&out[..n])?;
     println!(rt)
 }
 
-fn print_line(rt: &impl Print, kind: usize, rate: usize, taps: u16) -> io::Result<()>
-    requires { (kind < 5) × (rate < 2) }
-{
-    print!(rt; "kind {kind} rate {rate} taps {taps} ")?;
+fn print_line(rt: &impl Print, encoder: Encoder) -> io::Result<()> {
+    print!(rt;
+        "kind {} rate {} taps {} ",
+        encoder.kind, encoder.rate, encoder.taps
+    )?;
     let mut bytes = [0u8; 520];
-    generate(12345 + 1000 * (kind as u32) + u32::from(taps), &mut bytes);
-    let n = card::block_bytes(kind);
-    print_parity(rt, kind, rate, taps, &bytes[..n])
+    let seed = 12345 + 1000 * (encoder.kind as u32) + u32::from(encoder.taps);
+    generate(seed, &mut bytes);
+    let n = card::block_bytes(encoder.kind);
+    print_parity(rt, encoder, &bytes[..n])
 }
 
 fn print_lines(rt: &impl Print, kind: usize, rate: usize) -> io::Result<()>
     requires { (kind < 5) × (rate < 2) }
 {
     for taps in TAPS {
-        print_line(rt, kind, rate, taps)?;
+        print_line(rt, Encoder { kind, rate, taps })?;
     }
     Ok(())
 }

@@ -7,7 +7,7 @@ use Rattle.payload_blocks.proofs.encode_block.Goals as goal
 
 pub scramble-requires : goal.scramble-requires
 scramble-requires c =
-    omega (arith, c.requires.1, few_bytes c.args.kind c.requires.0.kind-lt)
+    omega (arith, c.requires.0, few_bytes c.args.coding.kind c.args.coding.defined.kind-lt)
 
 pub slice_bounds-scrambled-end : goal.slice_bounds-scrambled-end
 slice_bounds-scrambled-end c =
@@ -19,9 +19,9 @@ slice_bounds-encode-end c =
 
 pub encode-requires : goal.encode-requires
 encode-requires c =
-    (c.requires.0, scrambled-length c.args.block.now _ _ c.scramble.ensures ∙ c.requires.1, c.requires.2)
+    (scrambled-length c.args.block.now _ _ c.scramble.ensures ∙ c.requires.0, c.requires.1)
 
 pub returns : goal.returns
 returns c =
     c.encode.ensures
-    ∙ coded-written c.args.block.now _ _ c.scramble.ensures c.args.kind c.args.rate c.requires.0 c.args.taps c.requires.1 c.args.out.now
+    ∙ coded-written c.args.block.now _ _ c.scramble.ensures c.args.coding.kind c.args.coding.rate c.args.coding.defined c.args.coding.taps c.requires.0 c.args.out.now

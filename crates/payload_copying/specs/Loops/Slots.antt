@@ -46,7 +46,6 @@ pub record Walking (L : Layout) (p : Place) (y j n : ℕ) : Type 0 where
   pub standing : Standing L p
   pub number : slot_no L p ≡ y * L.copies + j
   pub lane_in : j < L.copies
-  pub symbol_in : y ≤ L.symbols
   pub number_in : y * L.copies + j ≤ L.symbols * L.copies
   pub start-is : n ≡ y * symbol_items L + j * group_bits L
 
