@@ -4,7 +4,7 @@ use Rattle.std.proofs.Math.Nat.{lt_of_mul-lt-mul_left, lt_of_mul-lt-mul_right}
 use Rattle.std.proofs.lemmas.List.{get_or-take, get_or-drop, drop-drop, drop_at}
 use lib.Arith.{digits_div, digits_mod}
 use Rattle.bits.specs.Lists.{tabulate, written}
-use Rattle.bits.proofs.NumberLaws.{row_within}
+use Rattle.bits.proofs.NumberLaws.{lt-cases, row_next, row_within}
 use Rattle.bits.proofs.ListLaws.{length-tabulate, get_or-tabulate, tabulate-of, tabulate-append, take-written, length-written, written-two, written-part, written_all, written-ext, written-whole}
 use Rattle.diversity.specs.Lanes.{lane_bit, carrier_count, item_count}
 use Rattle.diversity.specs.Loops.Cycle.{cycle_bit, cycle_lane, IsRun}
@@ -95,14 +95,27 @@ lane-is C os n = halves (n / 2 % C + get_or os (n / 2 / C) 0) (n % 2) (omega ari
         let rest : (2 * x + r) % 512 % 2 ≡ r = omega arith in
         rw (half, rest) (omega arith)
 
+-- where s symbols are begun, of which place c of the last comes next with item n
+begun-some : (C s c n : ℕ) → n + 2 * C ≡ 2 * (s * C + c) → c < C → 0 < s
+begun-some C s c n e h =
+    lt-cases s 1
+    (λ l. let none : s ≡ 0 = omega arith in absurd (omega (arith, e, ap (λ (x : ℕ). x * C) none)))
+    (λ l. l)
+
+pub begun-at : (C s c n : ℕ) → n + 2 * C ≡ 2 * (s * C + c) → c < C → n ≡ 2 * ((s - 1) * C + c)
+begun-at C s c n e h =
+    let some = begun-some C s c n e h in
+    let last : s ≡ s - 1 + 1 = omega (arith, some) in
+    omega (arith, e, ap (λ (x : ℕ). x * C) last, row_next (s - 1) C)
+
 -- the run from place c of symbol s on, with item n, where lane I carries bit b: up to the end of its symbol, or to the wrap
 module _ (C : ℕ) (os : List ℕ) (s c n : ℕ) (at : n ≡ 2 * (s * C + c)) (inside : c ≤ C - 1) (more : n < item_count C os) where
   below : s * C + c < length os * C
   unfolding item_count carrier_count
   below = omega (arith, at, more)
 
-  place : c < C
-  place = omega (arith, lt_of_mul-lt-mul_left (length os) {m = 0} {n = C} (omega (arith, below)))
+  pub run-place : c < C
+  run-place = omega (arith, lt_of_mul-lt-mul_left (length os) {m = 0} {n = C} (omega (arith, below)))
 
   pub run-symbol : s < length os
   run-symbol = lt_of_mul-lt-mul_right C (omega (arith, below))
@@ -111,12 +124,12 @@ module _ (C : ℕ) (os : List ℕ) (s c n : ℕ) (at : n ≡ 2 * (s * C + c)) (i
   unfolding item_count carrier_count
   run-is b m e r =
       record {
-        some = omega (arith, place);
-        within = omega (arith, at, place, row_within s C (length os) run-symbol);
+        some = omega (arith, run-place);
+        within = omega (arith, at, run-place, row_within s C (length os) run-symbol);
         on_cycle = omega arith;
         in_row = λ j l.
             rw (there j)
-            (cycle-at C os s (2 * (s * C)) (2 * c + j) refl (omega (arith, place))
+            (cycle-at C os s (2 * (s * C)) (2 * c + j) refl (omega (arith, run-place))
             ∙ sym (run_lane (get_or os s 0) c b j m e (omega arith) l));
       }
     where

@@ -45,8 +45,9 @@ impl<'a> Symbols<'a> {
     {
         Runs {
             symbols: *self,
-            symbol: 0,
-            place: 0,
+            begun: 0,
+            offset: 0,
+            place: self.carriers,
             item: 0,
         }
     }
@@ -88,17 +89,33 @@ pub struct Run {
     pub count: usize,
 }
 
-// The runs from a place of a symbol on, over all symbols: each goes up to where lane I's bit wraps, or up to the end of its symbol. `item` is
-// the item of that place, which is kept beside it so that no run takes a division.
+// The runs that follow in the symbol begun last, from its place `place` on, and in those after it: each goes up to where lane I's bit wraps,
+// or up to the end of its symbol. `item` is the first item of the next run, kept so that no run takes a division.
 #[derive(Drop)]
 pub struct Runs<'a> {
     pub symbols: Symbols<'a>,
-    pub symbol: usize,
+    pub begun: usize,
+    pub offset: u8,
     pub place: usize,
     pub item: usize,
-    pub ghost in_symbol: { place ≤ symbols.carriers - 1 },
-    pub ghost at_place: { item ≡ 2 * (symbol * symbols.carriers + place) },
+    pub ghost in_symbol: { place ≤ symbols.carriers },
+    pub ghost at_place: { item + 2 * symbols.carriers ≡ 2 * (begun * symbols.carriers + place) },
+    pub ghost under: { place < symbols.carriers → offset ≡ slice_index symbols.offsets.now (begun - 1) },
     pub ghost within: { item ≤ item_count symbols.carriers symbols.offsets.now },
+}
+
+impl<'a> Runs<'a> {
+    // Begins the next symbol, if the last one is at its end.
+    fn begin(&mut self)
+        requires { self.old.item < item_count self.old.symbols.carriers self.old.symbols.offsets.now }
+        ensures { (self.new.symbols ≡ self.old.symbols) × (self.new.item ≡ self.old.item) × (self.new.place < self.new.symbols.carriers) }
+    {
+        if self.place == self.symbols.carriers {
+            self.offset = self.symbols.offsets[self.begun];
+            self.begun += 1;
+            self.place = 0;
+        }
+    }
 }
 
 impl<'a> Iterator for Runs<'a> {
@@ -115,9 +132,9 @@ impl<'a> Iterator for Runs<'a> {
         if self.item == self.symbols.item_count() {
             return None;
         }
-        let Symbols { carriers, offsets } = self.symbols;
-        let bit = usize::from(lane_i(Place(self.place), offsets[self.symbol]));
-        let length = (carriers - self.place).min(256 - bit);
+        self.begin();
+        let bit = usize::from(lane_i(Place(self.place), self.offset));
+        let length = (self.symbols.carriers - self.place).min(256 - bit);
         let run = Run {
             item: self.item,
             lane: 2 * bit,
@@ -125,10 +142,6 @@ impl<'a> Iterator for Runs<'a> {
         };
         self.item += run.count;
         self.place += length;
-        if self.place == carriers {
-            self.symbol += 1;
-            self.place = 0;
-        }
         Some(run)
     }
 }
