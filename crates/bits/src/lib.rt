@@ -108,7 +108,7 @@ pub fn rotated(word: u32, by: u32) -> u32
     word.rotate_left(by * 8)
 }
 
-// A word whose bytes are rotated back down so many places.
+// A word whose bytes are rotated back down so many places. Up and down are a function each: one over the direction would say less of either.
 pub fn rotated_back(word: u32, by: u32) -> u32
     requires { by < 4 }
     ensures { (b : ℕ) → b < 4 → word_byte result b ≡ word_byte word ((b + by) % 4) }

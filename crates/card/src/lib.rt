@@ -42,7 +42,8 @@ pub struct Card {
     pub copies: u64,
 }
 
-// The bytes of a block of a kind.
+// The bytes of a block of a kind. Kinds, bands and modulations are numbers behind a card too, as the definitions and the laws over all of
+// them have it.
 pub fn block_bytes(kind: usize) -> usize
     requires { kind < 5 }
     ensures { result ≡ block_bytes kind }
@@ -66,7 +67,8 @@ fn copy_count(code: u64) -> u64
     COPY_COUNTS[code as usize]
 }
 
-// The code of a count of copies; 6, which no copies have, where it has none.
+// The code of a count of copies; 6, which no copies have, where it has none: no Option, since the definition `copy_code` and the laws of
+// what is served say it so.
 pub fn copy_code(copies: u64) -> u64
     ensures { result ≡ copy_code copies }
 {
