@@ -181,22 +181,21 @@ impl Card {
         self.has_defined_mode() && self.has_defined_counts()
     }
 
-    // The ten fields in order.
-    fn fields(&self) -> [u64; 10]
-        ensures { result ≡ fields_of self.now }
+    // The ten fields in order at the start of `fields`. One by one: copying a slice needs memmove, which the library does without.
+    fn put_fields(&self, fields: &mut [u64])
+        requires { 10 ≤ length fields.old }
+        ensures { fields.new ≡ fields_of self.now ++ drop 10 fields.old }
     {
-        [
-            self.version,
-            self.band,
-            self.kind,
-            self.rate,
-            self.modulation,
-            self.taps,
-            self.spare,
-            self.serial,
-            self.blocks,
-            self.copies,
-        ]
+        fields[0] = self.version;
+        fields[1] = self.band;
+        fields[2] = self.kind;
+        fields[3] = self.rate;
+        fields[4] = self.modulation;
+        fields[5] = self.taps;
+        fields[6] = self.spare;
+        fields[7] = self.serial;
+        fields[8] = self.blocks;
+        fields[9] = self.copies;
     }
 }
 
@@ -260,6 +259,6 @@ pub fn read_fields(card: &[u8], fields: &mut [u64]) -> Result<usize, Refusal>
     if fields.len() < 10 {
         return Err(Refusal::Room(10));
     }
-    fields[..10].copy_from_slice(&c.fields());
+    c.put_fields(fields);
     Ok(10)
 }

@@ -33,5 +33,5 @@ returns c =
     let room = le-ltb _ _ c.if-fields-lt10.false in
     record {
       answer = simp room at (ap (λ o. o.report) (sym read));
-      fields = rw (c.copy_from_slice.ensures.after, c.fields.ensures) (simp room at (ap (λ o. o.out) (sym read)));
+      fields = c.put_fields.ensures ∙ (simp room at (ap (λ o. o.out) (sym read)));
     }
