@@ -284,3 +284,7 @@ first-none limit xs none = sym (lowest-none (length xs) (λ k. ltb limit (get_or
 pub none_above : (limit : ℕ) (xs : List ℕ) → length xs ≤ first_above limit xs → (k : ℕ) → k < length xs → get_or xs k 0 ≤ limit
 unfolding first_above
 none_above limit xs h k l = ltb-false limit (get_or xs k 0) (lowest-below (length xs) (λ k. ltb limit (get_or xs k 0)) k (omega arith))
+
+-- what is put over all of a list is all of it
+pub put-whole : (src was now : List ℕ) → length was ≡ length src → now ≡ src ++ drop (length src) was → now ≡ src
+put-whole src was now e is = is ∙ ap (λ (l : List ℕ). src ++ l) (rw (← e) (drop-length was)) ∙ append-nil src

@@ -60,7 +60,7 @@ impl<'a> Symbols<'a> {
         let cycle = cycle_of(coded);
         for run in self.runs() {
             let copies = &cycle[run.lane..run.lane + run.count];
-            out[run.item..run.item + run.count].copy_from_slice(copies);
+            bits::put(copies, &mut out[run.item..run.item + run.count]);
         }
     }
 }

@@ -57,7 +57,7 @@ fn list_twice(bytes: &[u8], out: &mut [u8])
     split(bytes, 16, &mut halves[..n]);
     let (first, again) = out.split_at_mut(l);
     split(&halves[..n], 4, first);
-    again.copy_from_slice(first);
+    bits::put(first, again);
 }
 
 // The table's entries, each moved up.

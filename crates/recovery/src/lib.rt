@@ -77,7 +77,7 @@ fn recover_by<const N: usize>(
     if 0 < errors {
         return Err(Refusal::Parity(errors));
     }
-    out[..size].copy_from_slice(&block[..size]);
+    bits::put(&block[..size], &mut out[..size]);
     Ok(size)
 }
 

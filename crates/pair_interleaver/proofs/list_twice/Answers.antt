@@ -14,9 +14,9 @@ returns c =
     let l = 4 * length bytes in
     let p = pair_at (bit_of bytes) in
     let first = c.split-2.new.out in
-    let again = c.copy_from_slice.new.self in
+    let again = c.put.new.out in
     let long : length first ≡ l = search rules in
-    let same : again ≡ first = c.copy_from_slice.ensures.after in
+    let same : again ≡ first = put-whole _ _ _ (search rules) c.put.ensures in
     let pairs = λ (t : ℕ) (b : t < l).
     c.split-2.ensures t (omega arith)
     ∙ digits-pairs bytes _ (λ k h. get_or-take (2 * length bytes) _ k 0 h ∙ get_or-append c.split.new.out _ 0 k (search rules) ∙ c.split.ensures k (search rules)) t b in

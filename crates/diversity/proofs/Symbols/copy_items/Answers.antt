@@ -15,5 +15,5 @@ loop-run-preserved c =
     let inv = c.loop-run.invariant in (
       same ∙ inv.0,
       search rules,
-      written_all _ _ _ _ _ (run-put _ _ _ _ _ _ _ _ _ _ (rw inv.0 at is) c.cycle_of-cycle.ensures c.copy_from_slice.ensures.after (rw item inv.2)) (sym next),
+      written_all _ _ _ _ _ (run-put _ _ _ _ _ _ _ _ _ _ (rw inv.0 at is) c.cycle_of-cycle.ensures (put-whole _ _ _ (search rules) c.put.ensures) (rw item inv.2)) (sym next),
     )
