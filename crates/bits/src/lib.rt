@@ -28,12 +28,14 @@ pub fn first_above(s: &[u8], limit: u8) -> Option<usize>
     s.iter().position(|x| limit < *x)
 }
 
-// All of `src` at the start of `out`.
+// All of `src` at the start of `out`. By a loop: `copy_from_slice` needs memmove, which the library does without.
 pub fn put(src: &[u8], out: &mut [u8])
     requires { length src.now ≤ length out.old }
     ensures { out.new ≡ src.now ++ drop (length src.now) out.old }
 {
-    out[..src.len()].copy_from_slice(src);
+    for (i, x) in src.iter().enumerate() {
+        out[i] = *x;
+    }
 }
 
 // The number in n bytes from `at` on, the highest byte first.
@@ -53,7 +55,7 @@ pub fn put_number(number: u64, n: usize, out: &mut [u8])
     requires { (n ≤ 8) × (n ≤ length out.old) }
     ensures { out.new ≡ written n (λ k. number / 2 ^ (8 * (n - 1 - k)) % 256) out.old }
 {
-    out[..n].copy_from_slice(&number.to_be_bytes()[8 - n..]);
+    put(&number.to_be_bytes()[8 - n..], out);
 }
 
 // One value, `count` times, at the start of `out`.

@@ -50,7 +50,7 @@ impl<const N: usize> Text<N> {
     {
         let end = self.len + bytes.len();
         let room = &mut self.bytes[..];
-        room[self.len..end].copy_from_slice(bytes);
+        bits::put(bytes, &mut room[self.len..end]);
         self.len = end;
     }
 
