@@ -287,4 +287,4 @@ none_above limit xs h k l = ltb-false limit (get_or xs k 0) (lowest-below (lengt
 
 -- what is put over all of a list is all of it
 pub put-whole : (src was now : List ℕ) → length was ≡ length src → now ≡ src ++ drop (length src) was → now ≡ src
-put-whole src was now e is = is ∙ ap (λ (l : List ℕ). src ++ l) (rw (← e) (drop-length was)) ∙ append-nil src
+put-whole src was now e is = is ∙ ap (λ (l : List ℕ). src ++ l) (drop_of_length-le was (le_of_eq e)) ∙ append-nil src

@@ -4,6 +4,7 @@ use lib.ListN.{get_or-append}
 use Rattle.std.proofs.lemmas.List.{places}
 use Rattle.bits.specs.Bits.{bit_of}
 use Rattle.bits.proofs.NumberLaws.{lt-cases}
+use Rattle.bits.proofs.ListLaws.{put-whole}
 use Rattle.constituent.specs.Pairs.{pair_at}
 use Rattle.pair_interleaver.proofs.GatherLaws.{digits-pairs, twice-first, twice-again}
 use Rattle.pair_interleaver.proofs.list_twice.Goals as goal

@@ -4,6 +4,7 @@ use mathlib.Core.List.{List, ◌++◌}
 use Prim.Native.Nat.{ℕ, ◌/◌}
 use native.Mathlib.Omega.{arith}
 use lib.ListN.{drop, length-replicate}
+use Rattle.bits.proofs.ListLaws.{put-whole}
 use Rattle.refusal.specs.Report.{Report, done, refused}
 use Rattle.refusal.specs.Outcome.{Outcome}
 use Rattle.card.specs.Modes.{block_bytes}
@@ -95,7 +96,7 @@ returns g c =
     (none-undecided _ _ _ c.requires.decided.0 c.requires.decided.1) (omega (arith, errors (goal.at.returns g c).After-parity_errors-errors, c.if-errors-gt0.false)) in
     record {
       answer = ap {B = Report ℕ} done (size_is at) ∙ ap (λ (q : Outcome ℕ (List ℕ)). q.report) (sym law);
-      bytes = ap (λ (l : List ℕ). l ++ drop c.block_bytes-size.result c.args.out.now) (put-whole _ _ _ ? c.put.ensures)
+      bytes = ap (λ (l : List ℕ). l ++ drop c.block_bytes-size.result c.args.out.now) (put-whole _ _ _ (search rules) c.put.ensures)
           ∙ block-put c.args.coding.kind c.args.coding.rate c.args.coding.defined _ (decided-binary _ _ _ c.requires.decided.0 c.requires.decided.1) (size_is at) (kept-is at) (block_held at) (parity-held at) c.args.out.now
           ∙ ap (λ (q : Outcome ℕ (List ℕ)). q.out) (sym law);
     }

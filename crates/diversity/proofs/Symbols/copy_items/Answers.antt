@@ -1,6 +1,6 @@
 -- `diversity::Symbols::copy_items` meets its contract. The invariant: the items of the runs passed are written. Assumes nothing.
 use Rattle.std.proofs.Common.{◌≡◌, refl, sym, ◌∙◌, arith, rules}
-use Rattle.bits.proofs.ListLaws.{written_none, written_all}
+use Rattle.bits.proofs.ListLaws.{written_none, written_all, put-whole}
 use Rattle.diversity.proofs.CycleLaws.{run-put}
 use Rattle.diversity.proofs.Symbols.copy_items.Goals as goal
 
