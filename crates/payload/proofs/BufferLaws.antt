@@ -91,14 +91,19 @@ module _ (L : Layout) (kind rate taps : ℕ) (B : LaidBlock L kind rate) where
 
 -- ---- a buffer that holds the recovered bytes at its start
 
-module _ (kind rate taps : ℕ) (D : Defined kind rate) (e : ℕ → ℕ) (was now : List ℕ) (n : ℕ)
-    (good : (recovered kind rate taps e was).report ≡ done n) (p : now ≡ (recovered kind rate taps e was).out) where
+-- what recovery gave: n bytes, and what it left in the buffer
+pub record Recovered (kind rate taps : ℕ) (e : ℕ → ℕ) (was now : List ℕ) (n : ℕ) : Type 0 where
+  pub defined : Defined kind rate
+  pub good : (recovered kind rate taps e was).report ≡ done n
+  pub held : now ≡ (recovered kind rate taps e was).out
+
+module _ {kind rate taps : ℕ} {e : ℕ → ℕ} {was now : List ℕ} {n : ℕ} (G : Recovered kind rate taps e was now n) where
   pub block_size : n ≡ block_bytes kind
-  block_size = (block-done kind rate taps D e was was n good).0
+  block_size = (block-done kind rate taps G.defined e was was n G.good).0
 
   block-part : take n now ≡ bytes_of (block_bytes kind) (data_bit kind rate e)
   block-part =
-      ap₂ (λ (m : ℕ) (l : List ℕ). take m l) block_size (p ∙ (block-done kind rate taps D e was was n good).1)
+      ap₂ (λ (m : ℕ) (l : List ℕ). take m l) block_size (G.held ∙ (block-done kind rate taps G.defined e was was n G.good).1)
       ∙ take_at (bytes_of (block_bytes kind) (data_bit kind rate e)) (drop (block_bytes kind) was) (block_bytes kind) (length-bytes (block_bytes kind) (data_bit kind rate e))
 
   pub block-length : length (take n now) ≡ n
@@ -106,15 +111,15 @@ module _ (kind rate taps : ℕ) (D : Defined kind rate) (e : ℕ → ℕ) (was n
 
   pub block_room : n ≤ length now
   block_room =
-      omega (arith, simp length-append at (ap length (p ∙ (block-done kind rate taps D e was was n good).1)), length-bytes (block_bytes kind) (data_bit kind rate e), block_size)
+      omega (arith, simp length-append at (ap length (G.held ∙ (block-done kind rate taps G.defined e was was n G.good).1)), length-bytes (block_bytes kind) (data_bit kind rate e), block_size)
 
   -- descrambled at the start of the lent memory they are the block
   pub block-report : (out : List ℕ) → done n ≡ (decided_block kind rate taps e out).report
   block-report out =
-      ap {B = Report ℕ} (λ (m : ℕ). done m) block_size ∙ ap (λ (o : Outcome ℕ (List ℕ)). o.report) (sym (block-done kind rate taps D e was out n good).3)
+      ap {B = Report ℕ} (λ (m : ℕ). done m) block_size ∙ ap (λ (o : Outcome ℕ (List ℕ)). o.report) (sym (block-done kind rate taps G.defined e was out n G.good).3)
 
   pub block_out : (out : List ℕ) → scramble (take n now) ++ drop (length (take n now)) out ≡ (decided_block kind rate taps e out).out
   unfolding block_made
   block_out out =
-      ap₂ (λ (l : List ℕ) (m : ℕ). l ++ drop m out) (ap scramble block-part ∙ (block-done kind rate taps D e was out n good).2) (block-length ∙ block_size)
-      ∙ ap (λ (o : Outcome ℕ (List ℕ)). o.out) (sym (block-done kind rate taps D e was out n good).3)
+      ap₂ (λ (l : List ℕ) (m : ℕ). l ++ drop m out) (ap scramble block-part ∙ (block-done kind rate taps G.defined e was out n G.good).2) (block-length ∙ block_size)
+      ∙ ap (λ (o : Outcome ℕ (List ℕ)). o.out) (sym (block-done kind rate taps G.defined e was out n G.good).3)

@@ -68,7 +68,7 @@ impl Encoder {
         ensures { result ≡ kept_count self.kind self.rate }
     {
         let pairs = 4 * card::block_bytes(self.kind);
-        let ones = u32::count_ones(KEPT[self.rate]) as usize;
+        let ones = KEPT[self.rate].count_ones() as usize;
         pairs / 8 * ones
     }
 
@@ -85,7 +85,7 @@ impl Encoder {
         ensures { result ≡ kept_from self.rate from }
     {
         let ended = KEPT[self.rate] | 65536;
-        from + u32::trailing_zeros(ended >> from) as usize
+        from + (ended >> from).trailing_zeros() as usize
     }
 
     // The kept of the parity bits in `packed`, eight to a byte, at the start of `out`, at a rate that keeps two times of every sixteen: two

@@ -1,10 +1,8 @@
 -- `recovery::recover` meets its contract: an undecided bit refuses, and each array has room for the rows. Assumes nothing.
 use mathlib.Core.Path.{◌≡◌, sym, ap, ◌∙◌}
 use mathlib.Core.List.{List}
-use Prim.Native.Nat.{ℕ, ◌≤◌}
+use Prim.Native.Nat.{ℕ}
 use native.Mathlib.Omega.{arith}
-use lib.ListN.{length}
-use Rattle.bits.specs.Lists.{first_above}
 use Rattle.refusal.specs.Report.{refused}
 use Rattle.refusal.specs.Outcome.{Outcome}
 use Rattle.interleaver_shape.proofs.ShapeLaws.{coded-le}
@@ -39,8 +37,8 @@ recover_by-requires-in-1 c =
       rate_in_bounds = (short-coded c.args.coding.kind c.args.coding.rate c.args.coding.defined (omega arith), omega arith, c.requires.1);
     }
 
-pub recover_by-requires-in_default : goal.recover_by-requires-in_default
-recover_by-requires-in_default c =
+pub recover_by-requires-in_default-kind : goal.recover_by-requires-in_default-kind
+recover_by-requires-in_default-kind c =
     record {
       decided = (c.requires.0, c.in_default.ensures);
       rate_in_bounds = (coded-le c.args.coding.kind c.args.coding.rate c.args.coding.defined, omega arith, c.requires.1);
