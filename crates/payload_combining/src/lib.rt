@@ -25,7 +25,7 @@ use votes::MIDDLE;
 fn of_one(item: u8) -> u8
     ensures { result ≡ of_one item }
 {
-    if item < 2 { item } else { 2 }
+    item.min(2)
 }
 
 // What a bit's two copies decide. By sums and not by cases, which the loop below runs faster.

@@ -1,19 +1,17 @@
 -- Laws of one slot: its order in the table of addresses, the group that stands there, and its items. Assumes nothing.
-use mathlib.Core.Path.{◌≡◌, refl, sym, ap, ap₂, ◌∙◌}
-use mathlib.Core.Bool.{Bool, cond}
-use mathlib.Core.List.{List, ◌++◌}
+use mathlib.Core.Path.{◌≡◌, sym, ap, ap₂, ◌∙◌}
+use mathlib.Core.List.{List}
 use Prim.Native.Nat.{ℕ, ◌+◌, ◌-◌, ◌*◌, ◌/◌, ◌%◌, ◌<◌, ◌≤◌}
 use native.Mathlib.Nat.{mul_assoc, add-mul, mod-lt, div-add-mod', div-lt_iff_lt-mul}
 use native.Mathlib.Omega.{arith}
 use lib.Arith.{digits_div, digits_mod, digits_lt}
-use lib.Dec.{ltb}
 use lib.ListN.{length, get_or, take, drop, length-take, length-drop}
 use lib.Seq.{get_or-take, get_or-drop}
 use borrow.Author.Tests.{lt-ltb, le-ltb}
 use borrow.Author.Rules.{part_to_end}
 use Rattle.bits.specs.Lists.{written}
 use Rattle.bits.proofs.NumberLaws.{lt-cases, row_within}
-use Rattle.bits.proofs.ListLaws.{written-ext, written-part, written-slice, get_or-written, length-written}
+use Rattle.bits.proofs.ListLaws.{written-ext}
 use Rattle.address_interleaver.specs.Addresses.{out_addr}
 use Rattle.address_interleaver.specs.Loops.Table.{address_of}
 use Rattle.payload_layout.specs.declared.Layout.{Layout}
@@ -114,51 +112,3 @@ module _ (L : Layout) (s : Slotted L) where
       let at : length coded - from + y ≡ x = omega (arith, group-from L s g hg) in
       ap (λ (z : ℕ). get_or r z 0) (sym at) ∙ made.1 y (omega arith)
       ∙ ap (λ (z : ℕ). get_or coded z 0) (ap (λ (z : ℕ). z + y) t ∙ sym (rw (le-ltb (g * group_bits L + x) L.coded high))))
-
--- a copy's last group, put together
-pub last_made : (from tail pad rest end : ℕ) (coded old had part : List ℕ) → from ≤ length coded → rest ≡ length coded - from → end ≡ tail + pad → end ≤ length coded
-    → length old ≡ 816 → rest + pad ≤ 816
-    → had ≡ take (length coded - from) (drop from coded) ++ drop (length (take (length coded - from) (drop from coded))) old
-    → part ≡ take (end - tail) (drop tail coded) ++ drop (length (take (end - tail) (drop tail coded))) (take (816 - rest) (drop rest had))
-    → (length (take rest had ++ (part ++ drop (816 - rest) (drop rest had))) ≡ 816)
-    × LastGroup from tail pad coded (take rest had ++ (part ++ drop (816 - rest) (drop rest had)))
-last_made from tail pad rest end coded old had part hf hr he hl ho room d p = (
-  ap length whole ∙ length-written (rest + pad) f old (omega arith) ∙ ho,
-  (
-    (λ x b. at x (omega arith) ∙ low x (omega arith)),
-    (λ y b. let e : length coded - from + y - rest ≡ y = omega arith in
-        at (length coded - from + y) (omega arith) ∙ high (length coded - from + y) (omega arith) ∙ ap (λ (z : ℕ). get_or coded (tail + z) 0) e),
-  ),
-)
-  where
-    f : ℕ → ℕ
-    f x = cond (ltb x rest) (get_or coded (from + x) 0) (get_or coded (tail + (x - rest)) 0)
-
-    low : (x : ℕ) → x < rest → f x ≡ get_or coded (from + x) 0
-    low x h = ap (λ (t : Bool). cond t (get_or coded (from + x) 0) (get_or coded (tail + (x - rest)) 0)) (lt-ltb x rest h)
-
-    high : (x : ℕ) → rest ≤ x → f x ≡ get_or coded (tail + (x - rest)) 0
-    high x h = ap (λ (t : Bool). cond t (get_or coded (from + x) 0) (get_or coded (tail + (x - rest)) 0)) (le-ltb x rest h)
-
-    front : had ≡ written rest f old
-    front =
-        d ∙ written-slice 0 coded old from (length coded) from rest refl (omega arith) (omega arith)
-        ∙ written-ext rest _ f old (λ x h. sym (low x h))
-
-    long : length had ≡ 816
-    long = ap length front ∙ length-written rest f old (omega arith) ∙ ho
-
-    back : (y : ℕ) → y < pad → get_or coded (tail + y) 0 ≡ f (rest + y)
-    back y h =
-        let e : y ≡ rest + y - rest = omega arith in
-        ap (λ (z : ℕ). get_or coded (tail + z) 0) e ∙ sym (high (rest + y) (omega arith))
-
-    whole : take rest had ++ (part ++ drop (816 - rest) (drop rest had)) ≡ written (rest + pad) f old
-    whole =
-        ap (λ (n : ℕ). take rest had ++ (part ++ drop (n - rest) (drop rest had))) (sym long)
-        ∙ written-part rest pad f (λ y. get_or coded (tail + y) 0) old had part front back
-        (p ∙ written-slice 0 coded (take (816 - rest) (drop rest had)) tail end tail pad refl he hl
-        ∙ ap (λ (n : ℕ). written pad (λ y. get_or coded (tail + y) 0) (take (n - rest) (drop rest had))) (sym long))
-
-    at : (x : ℕ) → x < rest + pad → get_or (take rest had ++ (part ++ drop (816 - rest) (drop rest had))) x 0 ≡ f x
-    at x h = ap (λ (l : List ℕ). get_or l x 0) whole ∙ get_or-written (rest + pad) f old x 0 h

@@ -23,13 +23,6 @@ module _ (L : Layout) (s : Slotted L) where
   pub used-product : L.copies * L.interleavers * L.span ≡ used_carriers L
   used-product = mul_assoc L.copies L.interleavers L.span
 
-  pub total-few : L.copies * L.interleavers ≤ 410
-  total-few = omega (arith, used-product, used-few, le-mul_of_pos_right {m = L.span} (L.copies * L.interleavers) s.laid.sound.span_pos)
-
-  pub carriers-few : group_carriers L ≤ 410
-  carriers-few =
-      omega (arith, used-few, le-mul_of_pos_right {m = L.copies} (group_carriers L) s.laid.sound.copies-pos, mul_comm (group_carriers L) L.copies)
-
   pub addresses-of : (table : List ℕ) → table ≡ written (used_carriers L) (address L) (replicate 410 0) → Addresses L table
   addresses-of table e =
       let all = length-replicate {A = ℕ} 410 0 in

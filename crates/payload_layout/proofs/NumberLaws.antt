@@ -2,7 +2,7 @@
 use mathlib.Core.Path.{◌≡◌, refl, sym, ap, ap₂, ◌∙◌}
 use mathlib.Core.Bool.{Bool, cond}
 use Prim.Native.Nat.{ℕ, ◌+◌, ◌-◌, ◌*◌, ◌/◌, ◌%◌, ◌<◌, ◌≤◌}
-use native.Mathlib.Nat.{mul-le-mul, mul-le-mul_left, mul-pos, mul-zero, one-mul, add-mul, div-one, div-le_self, mul-div_cancel, mod-lt, div-eq_of_lt, div-add-mod, div-add-mod'}
+use native.Mathlib.Nat.{mul-le-mul, mul-le-mul_left, mul-pos, mul-zero, one-mul, add-mul, div-one, div-le_self, mul-div_cancel, mod-lt, div-eq_of_lt, div-add-mod'}
 use native.Mathlib.Omega.{arith}
 use lib.Dec.{eqb, leb}
 use borrow.Author.Tests.{eq-eqb, ne_eqb}
@@ -100,9 +100,6 @@ one-made carriers bits coded pos =
     same_layout carriers bits coded 1 symbols pad run (sym one-a-group) (sym (one_span carriers)) refl
 
 -- ---- more copies
-
-pub group-le : (G r : ℕ) → 0 < G → r - G * ((r - 1) / G) ≤ G
-group-le G r h = omega (arith, div-add-mod (r - 1) G, mod-lt (r - 1) h)
 
 module _ (carriers bits copies : ℕ) (is : copy_code copies < 6) (enough : all_interleavers copies ≤ carriers) (few : carriers ≤ 411) (bits_pos : 0 < bits) (bits-few : bits ≤ 4) where
   pub symbol-pos : 0 < bits * used_of carriers copies

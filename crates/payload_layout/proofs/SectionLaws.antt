@@ -38,9 +38,6 @@ module _ (copies : ℕ) (is : copy_code copies < 6) where
   pub interleavers-pos : zero < all_interleavers copies
   interleavers-pos = rw interleavers-are (mul-pos copies-pos per-group-pos)
 
-  pub interleavers-le : all_interleavers copies ≤ 14
-  interleavers-le = omega (arith, under 6 15 (λ code. get_or inter_num code 0) tt (copy_code copies) is)
-
 -- one copy is not interleaved
 pub one-interleaver : all_interleavers 1 ≡ 1
 unfolding copy_code lowest

@@ -26,7 +26,8 @@ const INTERLEAVERS: [Interleavers; 6] = [
     Interleavers { all: 11, group: 1 },
 ];
 
-// The numbers of a payload's layout.
+// The numbers of a payload's layout. That they fit together (`Laid`) is asked where it is needed: `layout_of` promises the section's numbers
+// for any count of coded bits, and `Laid` holds for those of a block.
 #[derive(Clone, Copy)]
 pub struct Layout {
     // carriers of a symbol, bits a carrier, and symbols
