@@ -39,8 +39,8 @@ recover_by-requires-in-1 c =
       rate_in_bounds = (short-coded c.args.coding.kind c.args.coding.rate c.args.coding.defined (omega arith), omega arith, c.requires.1);
     }
 
-pub recover_by-requires-in_default : goal.recover_by-requires-in_default
-recover_by-requires-in_default c =
+pub recover_by-requires-in_default-kind : goal.recover_by-requires-in_default-kind
+recover_by-requires-in_default-kind c =
     record {
       decided = (c.requires.0, c.in_default.ensures);
       rate_in_bounds = (coded-le c.args.coding.kind c.args.coding.rate c.args.coding.defined, omega arith, c.requires.1);
