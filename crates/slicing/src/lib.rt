@@ -1,7 +1,8 @@
 // Received carriers back to items (paper 01, "Points"; paper 02, T-02), by the factors and labels of `constellation`: 0, 1, or 2 where
 // a coordinate is lost. The threshold and the erasure width stand here.
 //
-// Public entries, none with a `requires`: slice, and slice_into, the same over lent memory. The rest is internal.
+// Public entries, none with a `requires`: slice, and slice_into, the same over lent memory. The rest is internal. A modulation is a number,
+// as in `constellation`.
 #![tactic(auto)]
 
 ghost use Rattle.std.specs.Prelude.{◌≡◌, false, cond, ◌&&◌, ◌++◌, ◌≤◌, length, drop};
@@ -25,7 +26,8 @@ const LOWER: f64 = 2.0 * QAM_FACTOR - QAM_ERASURE;
 
 const UPPER: f64 = 2.0 * QAM_FACTOR + QAM_ERASURE;
 
-// A received carrier, by paper 01's words: heard, with its I and Q coordinates, or lost.
+// A received carrier, by paper 01's words: heard, with its I and Q coordinates, or lost. An enum of its own and no Option (D23): 01 names
+// both cases, and the definitions and laws of slicing match on them.
 #[derive(Clone, Copy)]
 pub enum Received {
     Heard(f64, f64),
