@@ -1,7 +1,7 @@
 // The bands: their numbers, and the two units of a usable list, sub-carriers and places (000, 5.1.4.4; 004 for bands 2 and 3).
 //
-// `place_of` and `sub_carrier_of` are public entries: they take every number and refuse by the table. The rest is internal, and its
-// callers show what it requires.
+// `place_of` and `sub_carrier_of` are public entries: they take every number and refuse by the table. The rest is internal: a
+// `Band` is made of a number that is shown to be a band's, or by `Band::new`.
 #![tactic(auto)]
 
 ghost use Rattle.std.specs.Prelude.{◌≡◌, ◌<◌, ◌≤◌, MatchOption};
