@@ -16,7 +16,8 @@ use std::{fs, io, str};
 // Of a file the first 131,072 bytes are read, which is more than any entry takes (D19).
 pub const FILE_ROOM: usize = 131072;
 
-// The first n of some bytes on standard output, or none where there are fewer.
+// The first n of some bytes on standard output, or none where there are fewer. An entry answers how many elements it wrote, as
+// include/hplc.h has it, so the length stands beside the bytes.
 pub fn put_first(rt: &impl Print, bytes: &[u8], n: usize) -> io::Result<()> {
     rt.write_all(bytes.get(..n).unwrap_or(&[]))
 }
