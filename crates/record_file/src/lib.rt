@@ -9,7 +9,8 @@
 // bounds alone, and of what is written nothing (D24). A function that writes answers an error where a write fails.
 #![tactic(auto)]
 
-ghost use Rattle.std.specs.Prelude.{◌≡◌, ◌≤◌, length};
+ghost use Rattle.std.specs.Prelude.{◌≡◌, ◌<◌, ◌≤◌, length};
+ghost use Rattle.record_file.specs.Counting.{counted, counted_at};
 ghost use Rattle.record_file.specs.Reading.{serves, AtMost, Whole};
 
 use record::Record;
@@ -44,11 +45,17 @@ pub struct Count {
 }
 
 impl Count {
-    // Counts a record. No count comes near to wrapping.
-    fn add(&mut self, agrees: bool) {
-        self.records = self.records.wrapping_add(1);
-        if !agrees {
-            self.mismatches = self.mismatches.wrapping_add(1);
+    // The count after one more record. No count comes near to wrapping.
+    fn after(self, agrees: bool) -> Count
+        ensures { result ≡ counted agrees self }
+    {
+        Count {
+            records: self.records.wrapping_add(1),
+            mismatches: if agrees {
+                self.mismatches
+            } else {
+                self.mismatches.wrapping_add(1)
+            },
         }
     }
 }
@@ -84,10 +91,14 @@ pub struct Counts {
 
 impl Counts {
     // Counts a record of a call.
-    pub fn add(&mut self, call: u64, agrees: bool) {
-        if let Some(count) = self.calls.get_mut(call as usize) {
-            count.add(agrees);
-            self.all.add(agrees);
+    pub fn add(&mut self, call: u64, agrees: bool)
+        ensures call { call < 10 → (self.new.calls ≡ counted_at call agrees self.old.calls) × (self.new.all ≡ counted agrees self.old.all) }
+        ensures none { 10 ≤ call → self.new ≡ self.old }
+    {
+        let k = call as usize;
+        if k < CALLS.len() {
+            self.calls[k] = self.calls[k].after(agrees);
+            self.all = self.all.after(agrees);
         }
     }
 
