@@ -115,7 +115,10 @@ pub fn with_files<R: Env + Files + Print, F: FnOnce(&[u8], &[u8]) -> io::Result<
     }
     let mut first = [0u8; FILE_ROOM];
     let mut second = [0u8; FILE_ROOM];
-    run(read_file(rt, errors, 1, &mut first), read_file(rt, errors, 2, &mut second))
+    run(
+        read_file(rt, errors, 1, &mut first),
+        read_file(rt, errors, 2, &mut second),
+    )
 }
 
 // A refusal's number and what comes with it, a line each. The length of the text is returned, or an error where it cannot be written.
