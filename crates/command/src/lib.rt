@@ -62,6 +62,7 @@ pub fn called_with(
 pub fn read_start<'a>(from: &mut impl Read, buf: &'a mut [u8]) -> &'a [u8]
     ensures { length result.now ≤ length buf.old }
 {
+    // No index is counted here: each read says how much it gave.
     let mut done = 0;
     while done < buf.len() {
         match from.read(&mut buf[done..]) {
