@@ -19,7 +19,7 @@ pub invariant_of-put : goal.invariant_of-put
 invariant_of-put c =
     let is = sym c.is_version.ensures ∙ c.if-not-is_version.false in
     let e = sym c.read_card.ensures ∙ ap answer c.in_ok-c.was in
-    record { fits = rw c.in_version-moved.ensures (fits_in _ _ is (read_fits _ _ e)); }
+    record { fits = rw c.in_version-moved.ensures (fits_in _ _ is (read_fits _ _ e)) }
 
 pub returns-in_err-c : goal.returns-in_err-c
 returns-in_err-c c =

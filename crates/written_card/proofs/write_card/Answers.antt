@@ -35,7 +35,7 @@ invariant_of-put c =
     let mode = sym c.is_writable.ensures ∙ c.if-not-is_writable.false in
     let d = c.args.c in
     let (is, taps) = both (defined d) (ltb d.taps (2 ^ 11)) mode in
-    record { fits = writable-fits d version is (ltb-true d.taps (2 ^ 11) taps); }
+    record { fits = writable-fits d version is (ltb-true d.taps (2 ^ 11) taps) }
 
 pub returns : goal.returns
 unfolding write_card put_card
