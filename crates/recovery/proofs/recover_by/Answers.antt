@@ -3,6 +3,7 @@ use mathlib.Core.Path.{◌≡◌, sym, ap, ◌∙◌}
 use mathlib.Core.List.{List, ◌++◌}
 use Prim.Native.Nat.{ℕ, ◌/◌}
 use native.Mathlib.Omega.{arith}
+use borrow.Author.Rules.{rules}
 use lib.ListN.{drop, length-replicate}
 use Rattle.bits.proofs.ListLaws.{put-whole}
 use Rattle.refusal.specs.Report.{Report, done, refused}
