@@ -35,7 +35,7 @@ pub fn first_above(s: &[u8], limit: u8) -> Option<usize>
 }
 
 // All of `src` at the start of `out`. By a loop: `copy_from_slice` needs memmove, and the library is to need memcpy and memset alone
-// (include/hplc.h, tests/c.sh).
+// (include/hplc.h, tests/c.sh). With a zip of `iter_mut` the goal `returns` stays open.
 pub fn put(src: &[u8], out: &mut [u8])
     requires { length src.now ≤ length out.old }
     ensures { out.new ≡ src.now ++ drop (length src.now) out.old }
@@ -75,7 +75,7 @@ pub fn fill(count: usize, value: u8, out: &mut [u8])
     out[..count].fill(value);
 }
 
-// The exclusive-or of each byte with what stands at its place in `out`.
+// The exclusive-or of each byte with what stands at its place in `out`. By index, as in `put`.
 pub fn add_bytes(bytes: &[u8], out: &mut [u8])
     requires { length bytes.now ≤ length out.old }
     ensures { out.new ≡ written (length bytes.now)
@@ -150,6 +150,7 @@ pub fn unpack(bytes: &[u8], out: &mut [u8])
 {
     // A local, since a constant that is indexed in a loop is copied at each turn, and with a static this takes 8 % longer.
     let words = NIBBLES;
+    // By index: with a zip of `chunks_exact_mut` the goal `put_bits-requires`, that a chunk has eight elements, stays open.
     for (k, byte) in bytes.iter().enumerate() {
         put_bits(&words, *byte, &mut out[8 * k..]);
     }
@@ -182,6 +183,7 @@ pub fn pack(bits: &[u8], count: usize, out: &mut [u8])
     requires by_index { (i : ℕ) → i < 8 * count → get_or bits.now i 0 < 2 }
     ensures { out.new ≡ written count (byte_of (λ i. get_or bits.now i 0)) out.old }
 {
+    // By index: with a zip of `iter_mut` and `chunks_exact` the goal `returns` stays open.
     for k in 0..count {
         out[k] = pack_byte(bits, k);
     }
