@@ -17,7 +17,7 @@ use text::Text;
 // No text is longer (`text-short` of proofs/).
 pub const LONGEST: usize = 108;
 
-// The taps as eleven binary digits.
+// The taps as eleven binary digits. Made here, as in `Text::push_decimal`: no clause says when a `write!` succeeds.
 fn tap_digits(taps: u64) -> [u8; 11]
     ensures { result ≡ binary 11 taps }
 {
