@@ -72,12 +72,10 @@ fn copy_count(code: u64) -> u64
 pub fn copy_code(copies: u64) -> u64
     ensures { result ≡ copy_code copies }
 {
-    for (code, count) in COPY_COUNTS[..6].iter().enumerate() {
-        if *count == copies {
-            return code as u64;
-        }
-    }
-    6
+    COPY_COUNTS[..6]
+        .iter()
+        .position(|count| *count == copies)
+        .unwrap_or(6) as u64
 }
 
 // The bytes of a card of some version.
