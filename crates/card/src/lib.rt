@@ -220,10 +220,7 @@ pub fn read_card(card: &[u8]) -> Result<Card, Refusal>
         return Err(Refusal::CardLength(card.len()));
     }
     let c = unpack(card);
-    if !c.is_versioned() {
-        return Err(Refusal::Version);
-    }
-    if is_padded(card, c.version) {
+    if !c.is_versioned() || is_padded(card, c.version) {
         return Err(Refusal::Version);
     }
     if card.len() != card_bytes(c.version) {
@@ -240,10 +237,7 @@ pub fn served_card(card: &[u8], first: u64, last: u64) -> Result<Card, Refusal>
     ensures { answer result ≡ gate first last card.now }
 {
     let c = read_card(card)?;
-    if c.kind < first {
-        return Err(Refusal::Mode);
-    }
-    if last < c.kind {
+    if c.kind < first || last < c.kind {
         return Err(Refusal::Mode);
     }
     Ok(c)
