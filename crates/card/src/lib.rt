@@ -42,8 +42,8 @@ pub struct Card {
     pub copies: u64,
 }
 
-// The bytes of a block of a kind. Kinds, bands and modulations are numbers behind a card too, as the definitions and the laws over all of
-// them have it.
+// The bytes of a block of a kind. A kind, a band and a modulation stay numbers after the card is read: the definitions `block_bytes`,
+// `carrier_bits` and `defined_mode` take numbers, and the laws speak of each kind below five.
 pub fn block_bytes(kind: usize) -> usize
     requires { kind < 5 }
     ensures { result ≡ block_bytes kind }
@@ -59,7 +59,7 @@ pub fn carrier_bits(modulation: usize) -> usize
     CARRIER_BITS[modulation]
 }
 
-// The copies of a code; 0 where it has none.
+// The copies of a code; 0 where it has none, as the definition `copy_count` has it.
 fn copy_count(code: u64) -> u64
     requires { code < 8 }
     ensures { result ≡ copy_count code }
@@ -72,12 +72,10 @@ fn copy_count(code: u64) -> u64
 pub fn copy_code(copies: u64) -> u64
     ensures { result ≡ copy_code copies }
 {
-    for (code, count) in COPY_COUNTS[..6].iter().enumerate() {
-        if *count == copies {
-            return code as u64;
-        }
-    }
-    6
+    COPY_COUNTS[..6]
+        .iter()
+        .position(|count| *count == copies)
+        .unwrap_or(6) as u64
 }
 
 // The bytes of a card of some version.
@@ -181,7 +179,8 @@ impl Card {
         self.has_defined_mode() && self.has_defined_counts()
     }
 
-    // The ten fields in order at the start of `fields`. One by one: copying a slice needs memmove, which the library does without.
+    // The ten fields in order at the start of `fields`. One by one: copying a slice needs memmove, and the library is to need memcpy and memset
+    // alone (include/hplc.h, tests/c.sh).
     fn put_fields(&self, fields: &mut [u64])
         requires { 10 ≤ length fields.old }
         ensures { fields.new ≡ fields_of self.now ++ drop 10 fields.old }
@@ -221,10 +220,7 @@ pub fn read_card(card: &[u8]) -> Result<Card, Refusal>
         return Err(Refusal::CardLength(card.len()));
     }
     let c = unpack(card);
-    if !c.is_versioned() {
-        return Err(Refusal::Version);
-    }
-    if is_padded(card, c.version) {
+    if !c.is_versioned() || is_padded(card, c.version) {
         return Err(Refusal::Version);
     }
     if card.len() != card_bytes(c.version) {
@@ -241,10 +237,7 @@ pub fn served_card(card: &[u8], first: u64, last: u64) -> Result<Card, Refusal>
     ensures { answer result ≡ gate first last card.now }
 {
     let c = read_card(card)?;
-    if c.kind < first {
-        return Err(Refusal::Mode);
-    }
-    if last < c.kind {
+    if c.kind < first || last < c.kind {
         return Err(Refusal::Mode);
     }
     Ok(c)

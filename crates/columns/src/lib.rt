@@ -1,5 +1,8 @@
 // Four columns of bits of some height, filled column by column: from bytes, most significant bit first, to rows of four elements, each
-// 0 or 1, and back. The loops go over indices and not over chunks, since each index is a place on both sides.
+// 0 or 1, and back. Loops go over indices and not over chunks, since most of their indices are places on both sides.
+//
+// That a height is at most 130 is a clause and no type: it bounds the arithmetic alone, of a height in bytes in the functions by words and in
+// bits in the others. `ServedHeight` says what a height is, and only the two public functions ask it.
 //
 // Internal: nothing here is a public entry. A function with a `requires` is called only where its caller has shown it.
 #![tactic(auto)]
@@ -19,7 +22,7 @@ fn row(word: u32, j: usize) -> u32
     (word >> (7 - j)) & 0x1010101
 }
 
-// The eight rows whose columns are the bytes of a word, at the start of `out`.
+// The eight rows whose columns are the bytes of a word, at the start of `out`. By index, which is the bit of each byte too.
 fn put_rows(word: u32, out: &mut [u8])
     requires { 32 ≤ length out.old }
     ensures { out.new ≡ written 32 (λ k. bit_at (7 - k / 4) (word_byte word (k % 4))) out.old }
@@ -73,7 +76,8 @@ pub fn to_rows(height: usize, bytes: &[u8], out: &mut [u8])
     }
 }
 
-// The word whose bytes are the columns of eight rows, from `at` on. A rotation doubles it, which is faster here than a product.
+// The word whose bytes are the columns of eight rows, from `at` on. A rotation doubles it, which is faster here than a product. By index,
+// since `gather` takes a place, in the rows or in a chunk of four alike.
 fn take_rows(rows: &[u8], at: usize) -> u32
     requires { (at + 32 ≤ length rows.now) × ((j : ℕ) → j < 32 → get_or rows.now (at + j) 0 < 2) }
     ensures { (c : ℕ) → c < 4 → word_byte result c ≡ pack 8 (λ j. get_or rows.now (at + 4 * j + c) 0) }

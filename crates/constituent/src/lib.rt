@@ -66,6 +66,7 @@ fn double(taps: u16, half: usize, table: &mut [u16; 256])
     ensures { table.new ≡ written (2 * half) (byte_word taps 0) table.old }
 {
     let top = byte_word(taps, 0, half as u8);
+    // By index, since both entries are of one table, which a loop over two slices would have to split first.
     for i in 0..half {
         table[half + i] = table[i] ^ top;
     }
@@ -228,6 +229,7 @@ impl<'a> Encoder<'a> {
     {
         let mut a = u64::from(from.first) * 8;
         let mut b = u64::from(from.second) * 8;
+        // `out` by index, as in `bits::put`, and so `second` too: a zip in an `enumerate` is no plainer.
         for (i, x) in bytes.iter().enumerate() {
             let y = second[i];
             let p = self.given(a, *x);

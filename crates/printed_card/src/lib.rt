@@ -17,7 +17,7 @@ use text::Text;
 // No text is longer (`text-short` of proofs/).
 pub const LONGEST: usize = 108;
 
-// The taps as eleven binary digits.
+// The taps as eleven binary digits. Made here, as in `Text::push_decimal`: no clause says when a `write!` succeeds.
 fn tap_digits(taps: u64) -> [u8; 11]
     ensures { result ≡ binary 11 taps }
 {
@@ -36,6 +36,7 @@ fn card_lines(c: Card) -> Text<LONGEST>
     text.push_number(b"rate", c.rate);
     text.push_number(b"modulation", c.modulation);
     text.push_line(b"taps", &tap_digits(c.taps));
+    // Named, since the proof cites the test by its name, and the edit `counts_on_version_1` changes what is tested.
     let counted = c.version == 2;
     if counted {
         text.push_number(b"blocks", c.blocks);

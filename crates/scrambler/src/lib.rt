@@ -67,6 +67,7 @@ fn follow_bytes(far: usize, near: usize, out: &mut [u8])
     requires { Following far near out.old }
     ensures { EachIndex out.new (λ k. slice_index out.new k ≡ scrambler_byte k) }
 {
+    // By index, since each byte is made of bytes of the same slice, some of them just made.
     for i in far..out.len() {
         out[i] = out[i - far] ^ out[i - near];
     }

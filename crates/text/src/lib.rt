@@ -88,7 +88,7 @@ impl<const N: usize> Text<N> {
     }
 }
 
-// A hex digit.
+// A hex digit. Made here, as in `push_decimal`: no clause says when a `write!` succeeds.
 #[tactic(auto, unfolding(crate::specs::Text::hex_digit))]
 fn hex_digit(n: u8) -> u8
     requires { n < 16 }
@@ -97,7 +97,7 @@ fn hex_digit(n: u8) -> u8
     if n < 10 { b'0' + n } else { b'a' - 10 + n }
 }
 
-// Some bytes in hex, two digits a byte, at the start of `out`.
+// Some bytes in hex, two digits a byte, at the start of `out`. By index: two places of `out` go with a byte, and `out` may be longer.
 pub fn hex(bytes: &[u8], out: &mut [u8])
     requires { 2 * length bytes.now ≤ length out.old }
     ensures { out.new ≡ written (2 * length bytes.now) (hex_at bytes.now) out.old }

@@ -72,14 +72,15 @@ impl Encoder {
         pairs / 8 * ones
     }
 
-    // Whether the parity bits of every time are kept.
+    // Whether the parity bits of every time are kept: sixteen ones.
     fn keeps_all(self) -> bool
         ensures { result ≡ eqb (pattern self.rate) 65535 }
     {
         KEPT[self.rate] == 65535
     }
 
-    // The first place of the pattern that is kept, from a place on, or 16, where a one is set behind the last place.
+    // The first place of the pattern that is kept, from a place on, or 16, where a one is set behind the last place. 16 and no Option, as the
+    // definition `kept_from` has it.
     fn next_kept(self, from: usize) -> usize
         requires { from < 16 }
         ensures { result ≡ kept_from self.rate from }
@@ -97,6 +98,7 @@ impl Encoder {
         let a = self.next_kept(0);
         let b = self.next_kept(a + 1);
         let n = self.kept_count() / 8;
+        // The rows by index, as in `bits::pack`.
         for (i, byte) in out[..n].iter_mut().enumerate() {
             *byte = two_rows(packed, 32 * i, a, b);
         }

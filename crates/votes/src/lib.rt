@@ -18,7 +18,8 @@ pub fn same(a: u8, b: u8) -> u8
     u8::from(a == b)
 }
 
-// The strict majority of two counts: 0, 1, or 2 where there is none.
+// The strict majority of two counts: 0, 1, or 2 where there is none. A number, since a decided bit is an item again, of which 2 means lost, as
+// the definitions `majority` and `decided` have it.
 #[tactic(auto, unfolding(crate::specs::Votes::majority))]
 pub fn majority(zeros: u8, ones: u8) -> u8
     ensures { result ≡ majority_of zeros ones }
@@ -49,7 +50,7 @@ pub fn count_run(n: usize, at: usize, count: usize, items: &[u8], counters: &mut
     ensures { Adds (length counters.old) n count (carries (λ j. at + j)) items.now counters.old counters.new }
 {
     let run = &mut counters[at..at + count];
-    // By index, since nothing is known of what a zip with `iter_mut` wrote.
+    // The items by index: with a zip of `iter_mut` the goal `returns` stays open.
     for (i, counter) in run.iter_mut().enumerate() {
         *counter = voted(*counter, items[n + i]);
     }

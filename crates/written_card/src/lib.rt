@@ -77,12 +77,10 @@ impl FittingCard {
     {
         let c = self.card;
         let bytes = card::card_bytes(c.version);
-        let short = out.len() < bytes;
-        let unsaid = is_unsaid(&c);
-        if short {
+        if out.len() < bytes {
             return Err(Refusal::Room(bytes));
         }
-        if unsaid {
+        if is_unsaid(&c) {
             return Err(Refusal::Counts);
         }
         self.store(out);

@@ -5,7 +5,7 @@ use Rattle.refusal.specs.Report.{done}
 use Rattle.card.specs.Entries.{read_card}
 use Rattle.card.proofs.ReadLaws.{Versioned, read-versioned}
 use Rattle.card.proofs.read_card.Goals as goal
-use Rattle.card.proofs.read_card.Goals.{Else-is_padded}
+use Rattle.card.proofs.read_card.Goals.{Else-is_padded, then-not-is_versioned-via-then-not-is_versioned, then-not-is_versioned-via-else-not-is_versioned+then-is_padded}
 
 -- what is known of the bytes behind the padding
 versioned-here : (c : Else-is_padded) → Versioned c.args.card.now
@@ -30,16 +30,11 @@ returns-then-not-is_versioned c =
     let is = c.unpack-c.ensures in
     let long = sym c.is_length.ensures ∙ c.if-not-is_length.false in
     let version = rw is at (sym c.is_versioned.ensures) in
-    simp (long, version ∙ c.if-not-is_versioned.true)
-
-pub returns-then-is_padded : goal.returns-then-is_padded
-unfolding read_card
-returns-then-is_padded c =
-    let is = c.unpack-c.ensures in
-    let long = sym c.is_length.ensures ∙ c.if-not-is_length.false in
-    let version = rw is at (sym c.is_versioned.ensures) in
-    let pad = rw is at (sym c.is_padded.ensures) in
-    simp (long, version ∙ c.if-not-is_versioned.false, pad ∙ c.if-is_padded.true)
+    elim c.then-not-is_versioned.branch [
+      | then-not-is_versioned-via-then-not-is_versioned w ↦ simp (long, version ∙ w.if-not-is_versioned.true)
+      | then-not-is_versioned-via-else-not-is_versioned+then-is_padded w ↦
+          let pad = rw is at (sym w.is_padded.ensures) in simp (long, version ∙ w.if-not-is_versioned.false, pad ∙ w.if-is_padded.true)
+    ]
 
 pub returns-then-card-card_bytes : goal.returns-then-card-card_bytes
 returns-then-card-card_bytes c =

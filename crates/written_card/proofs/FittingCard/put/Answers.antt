@@ -19,19 +19,19 @@ short-is : (c : After-card_bytes-bytes) (b : Bool) → ltb (length c.args.out.no
     → ltb (length c.args.out.now) (card_bytes c.args.self.now.card.version) ≡ b
 short-is c b e = rw (← c.card_bytes-bytes.ensures) e
 
-pub returns-then-short : goal.returns-then-short
-returns-then-short c =
-    let law = put-short _ _ (short-is (goal.at.returns-then-short c).After-card_bytes-bytes _ (lt-ltb _ _ c.if-short.true)) in
+pub returns-then-out-bytes : goal.returns-then-out-bytes
+returns-then-out-bytes c =
+    let law = put-short _ _ (short-is (goal.at.returns-then-out-bytes c).After-card_bytes-bytes _ (lt-ltb _ _ c.if-out-bytes.true)) in
     record {
       answer = ap (λ n. answer {A = ℕ} (Err (Room n))) c.card_bytes-bytes.ensures ∙ sym (ap (λ o. o.report) law);
       bytes = sym (ap (λ o. o.out) law);
     }
 
-pub returns-then-unsaid : goal.returns-then-unsaid
+pub returns-then-is_unsaid : goal.returns-then-is_unsaid
 unfolding put_card
-returns-then-unsaid c =
-    let room = short-is (goal.at.returns-then-unsaid c).After-card_bytes-bytes _ (le-ltb _ _ c.if-short.false) in
-    let unsaid = sym c.is_unsaid-unsaid.ensures ∙ c.if-unsaid.true in
+returns-then-is_unsaid c =
+    let room = short-is (goal.at.returns-then-is_unsaid c).After-card_bytes-bytes _ (le-ltb _ _ c.if-out-bytes.false) in
+    let unsaid = sym c.is_unsaid.ensures ∙ c.if-is_unsaid.true in
     record {
       answer = simp (room, unsaid);
       bytes = simp (room, unsaid);
@@ -39,15 +39,15 @@ returns-then-unsaid c =
 
 pub store-requires : goal.store-requires
 store-requires c =
-    let room = short-is (goal.at.store-requires c).After-card_bytes-bytes _ (le-ltb _ _ c.if-short.false) in
-    let says = sym c.is_unsaid-unsaid.ensures ∙ c.if-unsaid.false in
+    let room = short-is (goal.at.store-requires c).After-card_bytes-bytes _ (le-ltb _ _ c.if-out-bytes.false) in
+    let says = sym c.is_unsaid.ensures ∙ c.if-is_unsaid.false in
     (said c.args.self.now.card says, ltb-false _ _ room)
 
 pub returns : goal.returns
 unfolding put_card
 returns c =
-    let room = short-is (goal.at.returns c).After-card_bytes-bytes _ (le-ltb _ _ c.if-short.false) in
-    let says = sym c.is_unsaid-unsaid.ensures ∙ c.if-unsaid.false in
+    let room = short-is (goal.at.returns c).After-card_bytes-bytes _ (le-ltb _ _ c.if-out-bytes.false) in
+    let says = sym c.is_unsaid.ensures ∙ c.if-is_unsaid.false in
     record {
       answer = rw c.card_bytes-bytes.ensures (simp (room, says));
       bytes = simp (room, says) c.store.ensures;
