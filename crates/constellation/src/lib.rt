@@ -1,7 +1,7 @@
 // Constellation points (Q/GDW 11612.41-2016, Tables 15, 16 and 18): a carrier's bits to a point of two f64 coordinates.
 //
 // Public entries, none with a `requires`: map, and map_into, the same over lent memory. The rest is internal. A modulation is a number and
-// no enum: the entries answer for every number, and the laws over all modulations count through them.
+// no enum: `factor_of`, `carrier_bits` and `mapping` of specs/ take every number, and the entries answer 3 to each that is no modulation.
 #![tactic(auto)]
 
 ghost use Rattle.std.specs.Prelude.{◌≡◌, [], ◌∷◌, ℕ, ◌<◌, length, get_or};
