@@ -1,8 +1,8 @@
 // Received carriers back to items (paper 01, "Points"; paper 02, T-02), by the factors and labels of `constellation`: 0, 1, or 2 where
 // a coordinate is lost. The threshold and the erasure width stand here.
 //
-// Public entries, none with a `requires`: slice, and slice_into, the same over lent memory. The rest is internal. A modulation is a number,
-// as in `constellation`.
+// Public entries, none with a `requires`: slice, and slice_into, the same over lent memory. The rest is internal. A modulation is a number
+// and no enum, as in `constellation`: `slicing` of specs/ takes every number, and the entries answer 3 to each that is no modulation.
 #![tactic(auto)]
 
 ghost use Rattle.std.specs.Prelude.{◌≡◌, false, cond, ◌&&◌, ◌++◌, ◌≤◌, length, drop};
@@ -143,7 +143,7 @@ pub fn slice(modulation: u8, received: Received) -> Result<Sliced, Refusal>
     Ok(items_of(modulation, received))
 }
 
-// A received carrier by a number that is 0 where it is lost.
+// A received carrier by a number that is 0 where it is lost: the C interface has no enum with coordinates (D23).
 fn received_of(heard: u64, i: f64, q: f64) -> Received
     ensures { result ≡ received_of heard i q }
 {
@@ -166,7 +166,8 @@ fn put_items(s: Sliced, items: &mut [u8])
     }
 }
 
-// Public entry: slice over lent memory. `heard` is 0 for a lost carrier, and any other number for one heard at i and q.
+// Public entry: slice over lent memory. `heard` is 0 for a lost carrier, and any other number for one heard at i and q:
+// C passes the three, and no `Received` (D23).
 pub fn slice_into(
     modulation: u64,
     heard: u64,
