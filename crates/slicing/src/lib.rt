@@ -108,28 +108,20 @@ fn items_of(modulation: u8, received: Received) -> Sliced
     ensures { items_in result ≡ items_of modulation received }
 {
     match received {
-        Received::Lost => {
-            if modulation == 0 {
-                return Sliced::One(2);
+        Received::Lost => match modulation {
+            0 => Sliced::One(2),
+            1 => Sliced::Two(2, 2),
+            _ => Sliced::Four(2, 2, 2, 2),
+        },
+        Received::Heard(i, q) => match modulation {
+            0 => Sliced::One(axis2(modulation, i)),
+            1 => Sliced::Two(axis2(modulation, i), axis2(modulation, q)),
+            _ => {
+                let a = axis4(i);
+                let b = axis4(q);
+                Sliced::Four(a.first, a.second, b.first, b.second)
             }
-            if modulation == 1 {
-                return Sliced::Two(2, 2);
-            }
-            Sliced::Four(2, 2, 2, 2)
-        }
-        Received::Heard(i, q) => {
-            if modulation == 0 {
-                return Sliced::One(axis2(modulation, i));
-            }
-            if modulation == 1 {
-                let a = axis2(modulation, i);
-                let b = axis2(modulation, q);
-                return Sliced::Two(a, b);
-            }
-            let a = axis4(i);
-            let b = axis4(q);
-            Sliced::Four(a.first, a.second, b.first, b.second)
-        }
+        },
     }
 }
 
