@@ -86,7 +86,8 @@ impl Plan {
 
 // ---- sending
 
-// Sending behind the card's checks: refusal 4 or 5, or the items.
+// Sending behind the card's checks: refusal 4 or 5, or the items. The card is handed on, here and in `read_by`, and not its plan: `send_by`
+// and `read_by` of specs/Entries say what comes out by the card.
 fn send_by(c: &Card, block: &[u8], out: &mut [u8]) -> Result<usize, Refusal>
     requires { Served 1 4 c.now }
     ensures answer { answer result ≡ (send_by c.now block.now out.old).report }
