@@ -57,7 +57,7 @@ pub fn word_at(s: &[u8], at: usize) -> u64
     bits::number_at(s, at, 8)
 }
 
-// The lowest bit of an f64's bits that is its sign, and the lowest of its exponent.
+// The sign's place in the bits of an f64, and the lowest of the exponent's.
 const SIGN: u64 = 1 << 63;
 
 const EXPONENT: u64 = 1 << 52;

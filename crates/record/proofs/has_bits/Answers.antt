@@ -6,6 +6,7 @@ use borrow.Author.Tests.{eq-eqb}
 use Rattle.std.specs.Bool.{beq}
 use Rattle.record.proofs.has_bits.Goals as goal
 
+-- a sign equals itself, and so does a float that is no NaN
 alike : (s : Bool) → beq s s ≡ true
 alike true = refl
 alike false = refl
