@@ -87,12 +87,12 @@ enum hplc_number {
  * cards, POINT of each about points, places and sub-carriers. Where memcpy and memset are bound when they are first called, the dynamic
  * linker takes some stack besides, which goes by the machine.
  */
-#define HPLC_STACK_CARD 2304
+#define HPLC_STACK_CARD 1024
 #define HPLC_STACK_POINT 512
-#define HPLC_STACK_FC_SEND 8704
-#define HPLC_STACK_FC_READ 10240
+#define HPLC_STACK_FC_SEND 4096
+#define HPLC_STACK_FC_READ 5120
 #define HPLC_STACK_PAYLOAD_SEND 28160
-#define HPLC_STACK_PAYLOAD_READ 29696
+#define HPLC_STACK_PAYLOAD_READ 29184
 
 /* The library's version, as HPLC_VERSION has it. */
 uint32_t hplc_version(void);

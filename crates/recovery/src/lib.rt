@@ -55,8 +55,9 @@ fn parity_errors(coding: Coding, bytes: &[u8], parity: &[u8], again: &mut [u8]) 
 }
 
 // The bytes of a block from its coded bits, all of them decided, at the start of `out`, or refusal 8, by way of the rows of its source
-// bits, of which there are at most N. Nothing is written to `out` before the check has passed. Memory is fixed, with no heap: each array
-// has the most that it holds.
+// bits, of which there are at most N. Nothing is written to `out` before the check has passed. A function of its own in the library too, so
+// that a short block takes little stack. Memory is fixed, with no heap: each array has the most that it holds.
+#[inline(never)]
 fn recover_by<const N: usize>(
     coding: Coding,
     decided: &[u8],

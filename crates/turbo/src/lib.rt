@@ -118,7 +118,8 @@ impl Encoder {
     }
 
     // The kept parity bits of a block, eight to a byte, at the start of `out`, with room for what is made on the way: the block's pairs twice,
-    // and the bytes that encoder 2 reads.
+    // and the bytes that encoder 2 reads. A function of its own in the library too, so that a short block takes little stack.
+    #[inline(never)]
     fn encode_in<const PAIRS: usize, const BYTES: usize>(self, bytes: &[u8], out: &mut [u8])
         requires whole { (length bytes.now ≡ block_bytes self.kind) × (kept_count self.kind self.rate / 8 ≤ length out.old) }
         requires room { (8 * block_bytes self.kind ≤ PAIRS) × (block_bytes self.kind ≤ BYTES) }
