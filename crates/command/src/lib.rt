@@ -1,7 +1,8 @@
 // What the programs share: how they are called, files that arguments name, and refusals on standard output.
 //
 // Internal: nothing here is a public entry. What the system's calls do is assumed, as in every program, and no contract can say what is
-// read or written (D24). `rt` stands for the system and prints on standard output; `errors` prints on standard error.
+// read or written (D24). `rt` stands for the system and prints on standard output; `errors` prints on standard error. They are two
+// parameters, since no trait that `rt` has says `stderr`: only `HostRuntime` does, which each `main` holds.
 #![tactic(auto)]
 
 ghost use Rattle.std.specs.Prelude.{◌≡◌, ◌≤◌, length, IfOk};
@@ -22,7 +23,8 @@ pub fn put_first(rt: &impl Print, bytes: &[u8], n: usize) -> io::Result<()> {
     rt.write_all(bytes.get(..n).unwrap_or(&[]))
 }
 
-// Argument i, at the start of `word`; it is empty where it is missing or there is no room for it. Argument 0 is the program's name.
+// Argument i, at the start of `word`; it is empty where it is missing or there is no room for it. Argument 0 is the program's name. No
+// Option, since nobody asks which it was: an empty name opens no file, and a file that is missing counts as empty (D19).
 fn argument<'a>(rt: &impl Env, i: usize, word: &'a mut [u8]) -> &'a [u8] {
     let n = rt.arg(i, word).unwrap_or(0);
     &word[..n]
@@ -122,7 +124,8 @@ pub fn with_files<R: Env + Files + Print, F: FnOnce(&[u8], &[u8]) -> io::Result<
     )
 }
 
-// A refusal's number and what comes with it, a line each. The length of the text is returned, or an error where it cannot be written.
+// A refusal's number and what comes with it, a line each. The length of the text is returned, or an error where it cannot be written. The
+// programs drop the length: it is what a contract can say here (D24).
 pub fn put_refusal(rt: &impl Print, r: Refusal) -> io::Result<usize>
     ensures { IfOk result (λ n. n ≡ length (refusal_lines r)) }
 {

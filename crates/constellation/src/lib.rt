@@ -1,7 +1,7 @@
 // Constellation points (Q/GDW 11612.41-2016, Tables 15, 16 and 18): a carrier's bits to a point of two f64 coordinates.
 //
 // Public entries, none with a `requires`: map, and map_into, the same over lent memory. The rest is internal. A modulation is a number and
-// no enum: the entries answer for every number, and the laws over all modulations count through them.
+// no enum: `factor_of`, `carrier_bits` and `mapping` of specs/ take every number, and the entries answer 3 to each that is no modulation.
 #![tactic(auto)]
 
 ghost use Rattle.std.specs.Prelude.{◌≡◌, [], ◌∷◌, ℕ, ◌<◌, length, get_or};
@@ -42,12 +42,10 @@ pub struct Pair {
 pub fn factor_of(modulation: u8) -> f64
     ensures { result ≡ factor_of modulation }
 {
-    if modulation == 0 {
-        1.0
-    } else if modulation == 1 {
-        QPSK_FACTOR
-    } else {
-        QAM_FACTOR
+    match modulation {
+        0 => 1.0,
+        1 => QPSK_FACTOR,
+        _ => QAM_FACTOR,
     }
 }
 
@@ -72,7 +70,8 @@ fn level4(first: u8, second: u8) -> f64
     }
 }
 
-// The point of a carrier's bits: each coordinate is one product.
+// The point of a carrier's bits: each coordinate is one product. Each modulation returns its point: arms of a `match` would have the same
+// lines, a level deeper.
 fn point_of(modulation: u8, bits: &[u8]) -> Point
     requires { (modulation < 3) × (length bits.now ≡ carrier_bits modulation) × ((k : ℕ) → k < length bits.now → get_or bits.now k 0 < 2) }
     ensures { result ≡ point_of modulation (λ k. get_or bits.now k 0) }

@@ -10,7 +10,8 @@ use refusal::Refusal;
 use slicing::{Received, Sliced};
 use std::io;
 
-// The factors of QPSK and 16QAM, and 2f of 16QAM with its two neighbours.
+// The factors of QPSK and 16QAM, and 2f of 16QAM with its two neighbours. They are written out again and not taken from `constellation`:
+// the program holds the core's constants against its own.
 const QPSK_FACTOR: f64 = 6369051672525773.0 / 9007199254740992.0;
 
 const QAM_FACTOR: f64 = 5696652996790543.0 / 18014398509481984.0;
@@ -121,7 +122,7 @@ fn map_line(rt: &impl Print, modulation: u8, n: usize, v: u8) -> io::Result<()> 
     mapping(rt, modulation, bits)
 }
 
-// All points of a modulation of n bits.
+// All points of a modulation of n bits. `main` says n with the modulation, so that the lines go by no number of the core.
 fn map_lines(rt: &impl Print, modulation: u8, n: usize) -> io::Result<()>
     requires { n < 5 }
 {

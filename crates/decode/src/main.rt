@@ -16,7 +16,7 @@ fn put_hex(rt: &impl Print, bytes: &[u8]) -> io::Result<()>
     println!(rt)
 }
 
-// The bytes of some items under a card.
+// The bytes of some items under a card, in an array of the most that a block has: memory is fixed, with no heap.
 fn decode(rt: &impl Print, card: &[u8], items: &[u8]) -> io::Result<()> {
     let mut bytes = [0u8; 520];
     match job::read(card, items, &mut bytes) {

@@ -4,7 +4,7 @@
 
 use std::io;
 
-// The items of some bytes under a card, at most 101,920 (D27).
+// The items of some bytes under a card, at most 101,920 (D27): memory is fixed, with no heap.
 fn encode(rt: &impl Print, card: &[u8], block: &[u8]) -> io::Result<()> {
     let mut items = [0u8; 101920];
     match job::send(card, block, &mut items) {

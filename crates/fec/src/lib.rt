@@ -38,7 +38,8 @@ fn source_rows(coding: Coding, bytes: &[u8], parity: &mut [u8], rows: &mut [u8])
 }
 
 // The coded bits of a block, at the start of `out`, by way of the rows of its source bits, of which there are at most N. A function of
-// its own in the library too, so that a short block takes little stack.
+// its own in the library too, so that a short block takes little stack. Memory is fixed, with no heap: each array has the most that it
+// holds.
 #[inline(never)]
 fn encode_by<const N: usize>(coding: Coding, bytes: &[u8], out: &mut [u8])
     requires whole { length bytes.now ≡ block_bytes coding.kind }

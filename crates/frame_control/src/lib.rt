@@ -7,13 +7,26 @@
 #![tactic(auto)]
 
 ghost use Rattle.std.specs.Prelude.{◌≡◌};
+ghost use Rattle.bands.specs.Bands.{carriers, offsets};
 ghost use Rattle.refusal.specs.Report.{answer};
+ghost use Rattle.card.specs.Gate.{Served};
 ghost use Rattle.frame_control.specs.Entries.{send_by, send as send_outcome, read_by, read as read_outcome};
 
 use bands::Band;
+use card::Card;
 use coding::Coding;
 use diversity::Symbols;
 use refusal::Refusal;
+
+// The symbols of a card's band.
+fn symbols_of(c: &Card) -> Symbols<'static>
+    requires { Served 0 0 c.now }
+    ensures { (result.carriers ≡ carriers c.now.band) × (result.offsets.now ≡ offsets c.now.band) }
+{
+    Symbols::on(Band {
+        number: c.band as usize,
+    })
+}
 
 // The items of a word on some symbols.
 fn send_by(symbols: &Symbols, taps: u16, word: &[u8], out: &mut [u8]) -> Result<usize, Refusal>
@@ -44,10 +57,7 @@ pub fn send(card: &[u8], word: &[u8], out: &mut [u8]) -> Result<usize, Refusal>
     ensures items { out.new ≡ (send_outcome card.now word.now out.old).out }
 {
     let c = card::served_card(card, 0, 0)?;
-    let band = Band {
-        number: c.band as usize,
-    };
-    send_by(&Symbols::on(band), c.taps as u16, word, out)
+    send_by(&symbols_of(&c), c.taps as u16, word, out)
 }
 
 // The word that the items on some symbols decide.
@@ -79,8 +89,5 @@ pub fn read(card: &[u8], items: &[u8], out: &mut [u8]) -> Result<usize, Refusal>
     ensures word { out.new ≡ (read_outcome card.now items.now out.old).out }
 {
     let c = card::served_card(card, 0, 0)?;
-    let band = Band {
-        number: c.band as usize,
-    };
-    read_by(&Symbols::on(band), c.taps as u16, items, out)
+    read_by(&symbols_of(&c), c.taps as u16, items, out)
 }

@@ -46,7 +46,9 @@ impl Plan {
         Plan { coding, layout }
     }
 
-    // The items of a block at the start of `out`: scrambled, coded and laid out.
+    // The items of a block at the start of `out`: scrambled, coded and laid out. `encode_block` of `payload_blocks` scrambles and codes
+    // alike; that crate does so for several blocks, and no entry uses it yet. The arrays have the most that a block has: memory is fixed,
+    // with no heap.
     fn send_items(&self, block: &[u8], out: &mut [u8])
         requires { (LaidBlock self.now.layout self.now.coding.kind self.now.coding.rate) × (length block.now ≡ block_bytes self.now.coding.kind)
             × (items_of self.now.layout ≤ length out.old) }
@@ -62,7 +64,8 @@ impl Plan {
         payload_copying::lay_out(self.layout, &coded[..count], out);
     }
 
-    // The block of legal items at the start of `out`, or refusal 7 or 8: decided, decoded and descrambled.
+    // The block of legal items at the start of `out`, or refusal 7 or 8: decided, decoded and descrambled. Its arrays have
+    // the most that a block has, too.
     fn read_items(&self, items: &[u8], out: &mut [u8]) -> Result<usize, Refusal>
         requires { (LaidBlock self.now.layout self.now.coding.kind self.now.coding.rate) × (length items.now ≡ items_of self.now.layout)
             × (block_bytes self.now.coding.kind ≤ length out.old) }
@@ -83,7 +86,8 @@ impl Plan {
 
 // ---- sending
 
-// Sending behind the card's checks: refusal 4 or 5, or the items.
+// Sending behind the card's checks: refusal 4 or 5, or the items. The card is handed on, here and in `read_by`, and not its plan: `send_by`
+// and `read_by` of specs/Entries say what comes out by the card.
 fn send_by(c: &Card, block: &[u8], out: &mut [u8]) -> Result<usize, Refusal>
     requires { Served 1 4 c.now }
     ensures answer { answer result ≡ (send_by c.now block.now out.old).report }

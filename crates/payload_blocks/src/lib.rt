@@ -23,7 +23,8 @@ pub struct Blocks {
     pub ghost few: { count ≤ 4 },
 }
 
-// The coded bits of one block, which is scrambled before, at the start of `out`.
+// The coded bits of one block, which is scrambled before, at the start of `out`. Memory is fixed, with no heap: the array has the most that
+// a block has. `payload` does the same for its one block, and no entry uses this crate yet.
 fn encode_block(coding: Coding, block: &[u8], out: &mut [u8])
     requires { (length block.now ≡ block_bytes coding.kind) × (coded_bits coding.kind coding.rate ≤ length out.old) }
     ensures { out.new ≡ written (coded_bits coding.kind coding.rate) (block_bit coding.kind coding.rate coding.taps block.now) out.old }
@@ -35,7 +36,8 @@ fn encode_block(coding: Coding, block: &[u8], out: &mut [u8])
 }
 
 impl Blocks {
-    // The joined coded bits of the blocks, at the start of `out`.
+    // The joined coded bits of the blocks, at the start of `out`. Here and below the loop counts blocks: what the parts of `chunks_mut`
+    // were given is not known of the whole afterwards.
     pub fn encode(self, payload: &[u8], out: &mut [u8])
         requires { (length payload.now ≡ self.count * block_bytes self.coding.kind) × (self.count * coded_bits self.coding.kind self.coding.rate ≤ length out.old) }
         ensures { out.new ≡ written (self.count * coded_bits self.coding.kind self.coding.rate)
@@ -84,8 +86,8 @@ impl Blocks {
         }
     }
 
-    // The payload by way of the blocks' bytes as they were coded, of which there are at most N, and none goes to `out` before all blocks are
-    // good.
+    // The payload by way of the blocks' bytes as they were coded, of which there are at most N, and none goes to `out` before all blocks
+    // are good.
     fn recover_by<const N: usize>(self, decided: &[u8], out: &mut [u8]) -> Result<usize, Refusal>
         requires decided { (length decided.now ≡ self.count * coded_bits self.coding.kind self.coding.rate) × (self.count * block_bytes self.coding.kind ≤ length out.old) }
         requires room { (self.count * block_bytes self.coding.kind ≤ N) × (N < 65536) }

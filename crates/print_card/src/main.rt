@@ -16,6 +16,7 @@ fn main(rt: HostRuntime) -> io::Result<()> {
     }
     let mut input = [0u8; 16];
     let card = command::read_start(&mut rt.stdin(), &mut input);
+    // Memory is fixed, with no heap: the array has room for the longest text, and a length comes with it.
     let mut text = [0u8; printed_card::LONGEST];
     let Ok(len) = printed_card::card_text(card, &mut text) else {
         return Ok(());

@@ -57,11 +57,17 @@ pub fn word_at(s: &[u8], at: usize) -> u64
     bits::number_at(s, at, 8)
 }
 
-// Whether some bits are a NaN's.
+// The sign's place in the bits of an f64, and the lowest of the exponent's.
+const SIGN: u64 = 1 << 63;
+
+const EXPONENT: u64 = 1 << 52;
+
+// Whether some bits are a NaN's: the exponent is the largest, 2047, and the fraction is not 0. `f64::from_bits` takes no such bits, so
+// there is no float of them to ask.
 fn is_nan(bits: u64) -> bool
     ensures { result ≡ nan_bits binary64 bits }
 {
-    bits % 9223372036854775808 / 4503599627370496 == 2047 && bits % 4503599627370496 != 0
+    bits % SIGN / EXPONENT == 2047 && bits % EXPONENT != 0
 }
 
 // The float of some bits. All NaNs are one.
@@ -79,7 +85,7 @@ pub fn float_of(bits: u64) -> f64
 fn has_bits(x: f64, bits: u64) -> bool
     ensures { result ≡ has_bits x bits }
 {
-    x == x && x.to_bits() == bits
+    !x.is_nan() && x.to_bits() == bits
 }
 
 // What an output is made of: bytes, words, or floats, which are expected by their bits.
@@ -172,7 +178,8 @@ pub fn untouched<T: Element, const N: usize>() -> [T; N]
     [T::untouched(); N]
 }
 
-// Whether each element of an output is as expected.
+// Whether each element of an output is as expected. By index, since an expected word has eight bytes: element i is compared with the bytes
+// that begin at `8 * i`, as the ghost `same` of `Element` has it.
 fn all_same<T: Element>(out: &[T], expected: &[u8]) -> bool
     ensures { result ≡ all_below (length out.now) (T.same out.now expected.now) }
 {

@@ -19,7 +19,8 @@ use card::Card;
 use record::{Element, Given, Record};
 use refusal::Refusal;
 
-// The card whose fields are some words.
+// The card whose fields are some words. Each field stands with the place of its word, as in `card_in` of specs/Calls: ten words in an array
+// would have to be given their names all the same.
 #[tactic(auto, unfolding(crate::specs::Calls::card_in))]
 fn card_in(words: &[u8]) -> Card
     ensures { result ≡ card_in words.now }
@@ -51,8 +52,8 @@ fn slice(card: &[u8], out: &mut [u8]) -> Result<usize, Refusal>
     slicing::slice_into(modulation, heard, i, q, out)
 }
 
-// A call whose output is bytes. Numbers are matched where the calls are made, here and in `run`: an enum of the calls would be one match
-// more, and each number has a call.
+// A call whose output is bytes. Calls are numbers and no enum: `run` answers for every number, as `given` of specs/Calls has it, and a
+// number that no call has is a slice there.
 #[tactic(auto, unfolding(crate::specs::Calls::bytes_outcome))]
 fn call(call: u64, card: &[u8], input: &[u8], out: &mut [u8]) -> Result<usize, Refusal>
     ensures answer { answer result ≡ (bytes_outcome call card.now input.now out.old).report }
@@ -92,7 +93,8 @@ fn given_by<T: Element, F: FnOnce(&mut [T]) -> Result<usize, Refusal>>(
     record::compared(answer, r, record::holds(out, expected))
 }
 
-// What a record's call gives on an untouched output.
+// What a record's call gives on an untouched output. The parts of a record are lent one by one, since `Entry`, which holds them all, is of
+// `record_file`, a crate beside this one.
 pub fn run(r: Record, card: &[u8], input: &[u8], expected: &[u8]) -> Given
     ensures { result ≡ given r card.now input.now expected.now }
 {

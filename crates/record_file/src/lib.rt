@@ -68,7 +68,8 @@ impl fmt::Display for Count {
     }
 }
 
-// The names of the calls, by their numbers.
+// The names of the calls, by their numbers. They stand beside `Counts.calls` and not in it: a name is the same in all counts, and `add`
+// promises the list of counts by itself (`counted_at` of specs/Counting).
 const CALLS: [&str; 10] = [
     "fc_send",
     "fc_read",
@@ -141,7 +142,8 @@ fn read_part<'a>(file: &mut impl Read, out: &'a mut [u8]) -> Result<&'a [u8], Br
     read_bytes(file, count, out)
 }
 
-// Whether a card has the length that its call has.
+// Whether a card has the length that its call has. Calls are numbers and no enum: `serves` of specs/Reading answers for every number, and
+// one that no call has is served by no card.
 fn card_serves(call: u64, count: usize) -> bool
     ensures { result ≡ serves call count }
 {

@@ -56,7 +56,7 @@ fn parity_errors(coding: Coding, bytes: &[u8], parity: &[u8], again: &mut [u8]) 
 
 // The bytes of a block from its coded bits, all of them decided, at the start of `out`, or refusal 8, by way of the rows of its source
 // bits, of which there are at most N. Nothing is written to `out` before the check has passed. A function of its own in the library too, so
-// that a short block takes little stack.
+// that a short block takes little stack. Memory is fixed, with no heap: each array has the most that it holds.
 #[inline(never)]
 fn recover_by<const N: usize>(
     coding: Coding,
@@ -84,7 +84,7 @@ fn recover_by<const N: usize>(
 }
 
 // The bytes of a block from its decided coded bits, at the start of `out`, or refusal 7 or 8. Nothing is written before both checks
-// have passed.
+// have passed. Short blocks have shorter arrays, since a longer one takes longer to clear.
 pub fn recover(coding: Coding, decided: &[u8], out: &mut [u8]) -> Result<usize, Refusal>
     requires { (length decided.now ≡ coded_bits coding.kind coding.rate) × (block_bytes coding.kind ≤ length out.old) }
     ensures answer { answer result ≡ (recovered coding.kind coding.rate coding.taps (λ i. get_or decided.now i 0) out.old).report }

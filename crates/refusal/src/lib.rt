@@ -8,7 +8,8 @@ ghost use Rattle.std.specs.Prelude.{◌≡◌, ◌∷◌, [], ℕ};
 ghost use Rattle.refusal.specs.Report.{refusal, answer, number, values};
 
 // A case for each number of the table, in its order. None has 9: it was "pad longer than the coded data", is withdrawn, and is given to
-// nothing else.
+// nothing else. There is no Display, since each place has a form of its own: a card's text has one line with the number (`printed_card`), a
+// program's refusal two lines (`job`), and a line of `constellation_vectors` the number and the place of a wrong bit.
 #[derive(Clone, Copy, Debug, PartialEq, Eq)]
 pub enum Refusal {
     // 1: the card is neither 11 nor 12 bytes; its length

@@ -1,8 +1,8 @@
 // Received carriers back to items (paper 01, "Points"; paper 02, T-02), by the factors and labels of `constellation`: 0, 1, or 2 where
 // a coordinate is lost. The threshold and the erasure width stand here.
 //
-// Public entries, none with a `requires`: slice, and slice_into, the same over lent memory. The rest is internal. A modulation is a number,
-// as in `constellation`.
+// Public entries, none with a `requires`: slice, and slice_into, the same over lent memory. The rest is internal. A modulation is a number
+// and no enum, as in `constellation`: `slicing` of specs/ takes every number, and the entries answer 3 to each that is no modulation.
 #![tactic(auto)]
 
 ghost use Rattle.std.specs.Prelude.{◌≡◌, false, cond, ◌&&◌, ◌++◌, ◌≤◌, length, drop};
@@ -108,28 +108,20 @@ fn items_of(modulation: u8, received: Received) -> Sliced
     ensures { items_in result ≡ items_of modulation received }
 {
     match received {
-        Received::Lost => {
-            if modulation == 0 {
-                return Sliced::One(2);
+        Received::Lost => match modulation {
+            0 => Sliced::One(2),
+            1 => Sliced::Two(2, 2),
+            _ => Sliced::Four(2, 2, 2, 2),
+        },
+        Received::Heard(i, q) => match modulation {
+            0 => Sliced::One(axis2(modulation, i)),
+            1 => Sliced::Two(axis2(modulation, i), axis2(modulation, q)),
+            _ => {
+                let a = axis4(i);
+                let b = axis4(q);
+                Sliced::Four(a.first, a.second, b.first, b.second)
             }
-            if modulation == 1 {
-                return Sliced::Two(2, 2);
-            }
-            Sliced::Four(2, 2, 2, 2)
-        }
-        Received::Heard(i, q) => {
-            if modulation == 0 {
-                return Sliced::One(axis2(modulation, i));
-            }
-            if modulation == 1 {
-                let a = axis2(modulation, i);
-                let b = axis2(modulation, q);
-                return Sliced::Two(a, b);
-            }
-            let a = axis4(i);
-            let b = axis4(q);
-            Sliced::Four(a.first, a.second, b.first, b.second)
-        }
+        },
     }
 }
 
@@ -143,7 +135,7 @@ pub fn slice(modulation: u8, received: Received) -> Result<Sliced, Refusal>
     Ok(items_of(modulation, received))
 }
 
-// A received carrier by a number that is 0 where it is lost.
+// A received carrier by a number that is 0 where it is lost: the C interface has no enum with coordinates (D23).
 fn received_of(heard: u64, i: f64, q: f64) -> Received
     ensures { result ≡ received_of heard i q }
 {
@@ -166,7 +158,8 @@ fn put_items(s: Sliced, items: &mut [u8])
     }
 }
 
-// Public entry: slice over lent memory. `heard` is 0 for a lost carrier, and any other number for one heard at i and q.
+// Public entry: slice over lent memory. `heard` is 0 for a lost carrier, and any other number for one heard at i and q:
+// C passes the three, and no `Received` (D23).
 pub fn slice_into(
     modulation: u64,
     heard: u64,

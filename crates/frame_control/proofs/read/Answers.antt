@@ -12,10 +12,10 @@ overflow_cast-c c =
     let e = sym c.served_card.ensures ∙ ap answer c.in_ok-c.was in
     omega (arith, (gate-served 0 0 c.args.card.now _ e).taps-lt)
 
-pub invariant_of-band : goal.invariant_of-band
-invariant_of-band c =
+pub symbols_of-requires : goal.symbols_of-requires
+symbols_of-requires c =
     let e = sym c.served_card.ensures ∙ ap answer c.in_ok-c.was in
-    record { defined = (gate-served 0 0 c.args.card.now _ e).band-lt }
+    gate-served 0 0 c.args.card.now _ e
 
 pub returns-in_err-c : goal.returns-in_err-c
 returns-in_err-c c =
@@ -34,6 +34,6 @@ returns c =
     let e = sym c.served_card.ensures ∙ ap answer c.in_ok-c.was in
     let passed = sym (read-passed a.card.now a.items.now a.out.now _ e) in
     record {
-      answer = (rw (c.on.ensures.0, c.on.ensures.1) at c.read_by.ensures.answer) ∙ ap (λ o. o.report) passed;
-      word = (rw (c.on.ensures.0, c.on.ensures.1) at c.read_by.ensures.word) ∙ ap (λ o. o.out) passed;
+      answer = (rw (c.symbols_of.ensures.0, c.symbols_of.ensures.1) at c.read_by.ensures.answer) ∙ ap (λ o. o.report) passed;
+      word = (rw (c.symbols_of.ensures.0, c.symbols_of.ensures.1) at c.read_by.ensures.word) ∙ ap (λ o. o.out) passed;
     }

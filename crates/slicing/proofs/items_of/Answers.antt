@@ -11,39 +11,30 @@ use Rattle.slicing.proofs.items_of.Goals as goal
 lost : {m k : ℕ} → m ≡ k → replicate {A = ℕ} (carrier_bits k) 2 ≡ replicate (carrier_bits m) 2
 lost e = ap (λ (n : ℕ). replicate (carrier_bits n) 2) (sym e)
 
-pub returns-then-modulation-eq0 : goal.returns-then-modulation-eq0
-returns-then-modulation-eq0 c =
-    simp (c.in-Lost.is) (lost c.if-modulation-eq0.true)
+pub returns-in-0 : goal.returns-in-0
+returns-in-0 c = simp (c.in-Lost.is) (lost c.in-0.is)
 
-pub returns-then-modulation-eq1 : goal.returns-then-modulation-eq1
-returns-then-modulation-eq1 c =
-    simp (c.in-Lost.is) (lost c.if-modulation-eq1.true)
+pub returns-in-1 : goal.returns-in-1
+returns-in-1 c = simp (c.in-Lost.is) (lost c.in-1.is)
 
-pub returns-then-modulation-eq0-2 : goal.returns-then-modulation-eq0-2
-returns-then-modulation-eq0-2 c =
-    simp (c.in-Heard.is, eq-eqb _ _ c.if-modulation-eq0-2.true, c.axis2.ensures)
-
-pub returns-then-modulation-eq1-2 : goal.returns-then-modulation-eq1-2
-returns-then-modulation-eq1-2 c =
-    simp (
-      c.in-Heard.is,
-      ne_eqb _ _ c.if-modulation-eq0-2.false,
-      eq-eqb _ _ c.if-modulation-eq1-2.true,
-      c.axis2-a.ensures,
-      c.axis2-b.ensures,
-    )
-
-pub returns-else-modulation-eq1 : goal.returns-else-modulation-eq1
-returns-else-modulation-eq1 c =
+pub returns-in_default : goal.returns-in_default
+returns-in_default c =
     let two : c.args.modulation ≡ 2 = omega arith in
     simp (c.in-Lost.is) (lost two)
 
-pub returns-else-modulation-eq1-2 : goal.returns-else-modulation-eq1-2
-returns-else-modulation-eq1-2 c =
+pub returns-in-0-modulation : goal.returns-in-0-modulation
+returns-in-0-modulation c = simp (c.in-Heard.is, eq-eqb _ _ c.in-0-modulation.is, c.axis2.ensures)
+
+pub returns-in-1-modulation : goal.returns-in-1-modulation
+returns-in-1-modulation c =
+    simp (c.in-Heard.is, ne_eqb c.args.modulation 0 (λ e. omega arith), eq-eqb _ _ c.in-1-modulation.is, c.axis2-in-1-modulation.ensures, c.axis2-in-1-modulation-2.ensures)
+
+pub returns-in_default-modulation : goal.returns-in_default-modulation
+returns-in_default-modulation c =
     simp (
       c.in-Heard.is,
-      ne_eqb _ _ c.if-modulation-eq0-2.false,
-      ne_eqb _ _ c.if-modulation-eq1-2.false,
+      ne_eqb c.args.modulation 0 (λ e. omega arith),
+      ne_eqb c.args.modulation 1 (λ e. omega arith),
       c.axis4-a.ensures,
       c.axis4-b.ensures,
     )
