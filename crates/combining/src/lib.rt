@@ -35,7 +35,7 @@ fn counters_of(symbols: &Symbols, items: &[u8]) -> [u8; 512]
 fn pair(i: u8, q: u8) -> u16
     ensures { result ≡ i + 256 * q }
 {
-    u16::from(i) + 256 * u16::from(q)
+    u16::from_le_bytes([i, q])
 }
 
 // A pair for each place of the cycle, since a loop reads pairs in a row faster than every other byte.
