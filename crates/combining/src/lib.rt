@@ -14,6 +14,7 @@ ghost use Rattle.combining.specs.Loops.Counters.{pair_sum, bit_sum};
 
 use bands::Place;
 use diversity::Symbols;
+use std::array;
 use votes::MIDDLE;
 
 // Where the sum of two counters starts. There is one for each lane of the cycle, and a bit has two.
@@ -42,11 +43,7 @@ fn pair(i: u8, q: u8) -> u16
 fn pairs(counters: &[u8; 512]) -> [u16; 256]
     ensures { result ≡ tabulate 256 (λ p. get_or counters.now (2 * p) 0 + 256 * get_or counters.now (2 * p + 1) 0) }
 {
-    let mut both = [0; 256];
-    for p in 0..256 {
-        both[p] = pair(counters[2 * p], counters[2 * p + 1]);
-    }
-    both
+    array::from_fn(|p| pair(counters[2 * p], counters[2 * p + 1]))
 }
 
 // A bit by lane I's counter at its own place and lane Q's at the place 128 on, or back. Their sum is a counter too, modulo 256.
