@@ -46,7 +46,8 @@ fn pairs(counters: &[u8; 512]) -> [u16; 256]
     array::from_fn(|p| pair(counters[2 * p], counters[2 * p + 1]))
 }
 
-// A bit by lane I's counter at its own place and lane Q's at the place 128 on, or back. Their sum is a counter too, modulo 256.
+// A bit by lane I's counter at its own place and lane Q's at the place 128 on, or back. Their sum is a counter too, modulo 256. Of each
+// pair one byte is taken, in the clause's own words: `to_le_bytes` would make two of each for that.
 fn decide_bit(own: u16, far: u16) -> u8
     ensures { result ≡ majority_of (2 * middle) ((own % 256 + far / 256) % 256) }
 {
@@ -62,6 +63,7 @@ fn decide_half(first: usize, both: &[u16; 256], bits: &mut [u8])
 {
     let i = usize::from(diversity::lane_i(Place(first), 0));
     let q = usize::from(diversity::lane_q(Place(first), 0));
+    // By index: a zip would be of three parts, and nothing is proved of what a zip of `iter_mut` writes.
     for b in 0..128 {
         bits[b] = decide_bit(both[i + b], both[q + b]);
     }
