@@ -55,8 +55,8 @@ fn decide_bit(own: u16, far: u16) -> u8
     votes::majority(TWO_MIDDLES, sum as u8)
 }
 
-// Half of the bits, from one on such that neither lane wraps within it. `diversity::half_cycle` starts alike, but the bodies differ, and one
-// function that takes them as closures would be longer than both.
+// Half of the bits, from one on such that neither lane wraps within it. `diversity::half_cycle` starts alike, but the bodies differ, and
+// one function that takes them as closures would be longer than both.
 fn decide_half(first: usize, both: &[u16; 256], bits: &mut [u8])
     requires { (first % 128 ≡ 0) × (first < 256) × (128 ≤ length bits.old) }
     ensures { bits.new ≡ written 128 (λ b. majority_of (2 * middle) (pair_sum both.now (first + b))) bits.old }
