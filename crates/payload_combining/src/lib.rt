@@ -145,9 +145,9 @@ fn count_narrow(slots: &Slots, slot: Slot, items: &[u8], counters: &mut [u8])
     ensures { counters.new ≡ counted slots.now.layout.coded (group_bits slots.now.layout) (slot_on slots.now.layout slot.copy slot.group) items.now counters.old }
 {
     let from = slot.group * slots.group_carriers();
-    for (p, &address) in slots.order(slot.copy).iter().enumerate() {
+    for (&address, &item) in slots.order(slot.copy).iter().zip(items) {
         let at = padded_bit(slots, slot.copy, from + usize::from(address));
-        counters[at] = votes::voted(counters[at], items[p]);
+        counters[at] = votes::voted(counters[at], item);
     }
 }
 
