@@ -28,7 +28,8 @@ pub fn next_place(n: usize, p: usize) -> usize
     if p + 1 < n { p + 1 } else { 0 }
 }
 
-// The numbers below the length of `out`, written by rows of m, read by columns and moved up by `start` places, each with `base` added.
+// The numbers below the length of `out`, written by rows of m, read by columns and moved up by `start` places, each with `base` added. The
+// place goes around, and place, number and column each follow from the one before, so that no turn takes a division.
 fn walk(m: usize, start: usize, base: usize, out: &mut [u16])
     requires { (start < length out.old) × (0 < m) × (m < 65536) × (base + length out.old < 65536) }
     ensures { EachIndex out.new (λ p. slice_index out.new p ≡ base + columns (length out.old) m (circshift (length out.old) start p)) }
@@ -62,6 +63,7 @@ pub fn fill_table(interleavers: usize, span: usize, step: usize, count: usize, o
     requires { (0 < interleavers) × (0 < span) × (step ≤ 2) × (count * span ≤ 410) × (interleavers * span ≤ 410) × (count * span ≤ length out.old) }
     ensures { out.new ≡ written (count * span) (address_of interleavers span step) out.old }
 {
+    // By index: with `chunks_exact_mut(span).enumerate()`, `returns` stays open.
     for k in 0..count {
         let at = k * span;
         let j = k % interleavers;

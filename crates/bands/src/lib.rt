@@ -119,6 +119,7 @@ pub fn place_of(band: usize, s: SubCarrier) -> Result<Place, Refusal>
     if number < first {
         return Err(Refusal::Length(number));
     }
+    // a test of its own, which the edit `last_sub_carrier_refused` changes alone
     if band.last() < number {
         return Err(Refusal::Length(number));
     }

@@ -14,6 +14,7 @@ ghost use Rattle.combining.specs.Loops.Counters.{pair_sum, bit_sum};
 
 use bands::Place;
 use diversity::Symbols;
+use std::array;
 use votes::MIDDLE;
 
 // Where the sum of two counters starts. There is one for each lane of the cycle, and a bit has two.
@@ -35,21 +36,18 @@ fn counters_of(symbols: &Symbols, items: &[u8]) -> [u8; 512]
 fn pair(i: u8, q: u8) -> u16
     ensures { result ≡ i + 256 * q }
 {
-    u16::from(i) + 256 * u16::from(q)
+    u16::from_le_bytes([i, q])
 }
 
 // A pair for each place of the cycle, since a loop reads pairs in a row faster than every other byte.
 fn pairs(counters: &[u8; 512]) -> [u16; 256]
     ensures { result ≡ tabulate 256 (λ p. get_or counters.now (2 * p) 0 + 256 * get_or counters.now (2 * p + 1) 0) }
 {
-    let mut both = [0; 256];
-    for p in 0..256 {
-        both[p] = pair(counters[2 * p], counters[2 * p + 1]);
-    }
-    both
+    array::from_fn(|p| pair(counters[2 * p], counters[2 * p + 1]))
 }
 
-// A bit by lane I's counter at its own place and lane Q's at the place 128 on, or back. Their sum is a counter too, modulo 256.
+// A bit by lane I's counter at its own place and lane Q's at the place 128 on, or back. Their sum is a counter too, modulo 256. Of each
+// pair one byte is taken, in the clause's own words: `to_le_bytes` would make two of each for that.
 fn decide_bit(own: u16, far: u16) -> u8
     ensures { result ≡ majority_of (2 * middle) ((own % 256 + far / 256) % 256) }
 {
@@ -57,14 +55,15 @@ fn decide_bit(own: u16, far: u16) -> u8
     votes::majority(TWO_MIDDLES, sum as u8)
 }
 
-// Half of the bits, from one on such that neither lane wraps within it. `diversity::half_cycle` starts alike, but the bodies differ, and one
-// function that takes them as closures would be longer than both.
+// Half of the bits, from one on such that neither lane wraps within it. `diversity::half_cycle` starts alike, but the bodies differ, and
+// one function that takes them as closures would be longer than both.
 fn decide_half(first: usize, both: &[u16; 256], bits: &mut [u8])
     requires { (first % 128 ≡ 0) × (first < 256) × (128 ≤ length bits.old) }
     ensures { bits.new ≡ written 128 (λ b. majority_of (2 * middle) (pair_sum both.now (first + b))) bits.old }
 {
     let i = usize::from(diversity::lane_i(Place(first), 0));
     let q = usize::from(diversity::lane_q(Place(first), 0));
+    // By index: a zip would be of three parts, and nothing is proved of what a zip of `iter_mut` writes.
     for b in 0..128 {
         bits[b] = decide_bit(both[i + b], both[q + b]);
     }

@@ -79,8 +79,6 @@ pub fn lane_q(place: Place, offset: u8) -> u8
     lane_i(place, offset).wrapping_add(128)
 }
 
-// The cycle: the 512 lanes of 256 places under offset 0, I then Q, after which the bits repeat.
-
 // A run: from `item` on, `count` items of a symbol carry the bits of as many lanes of the cycle in a row, from `lane` on.
 #[derive(Clone, Copy)]
 pub struct Run {
@@ -89,8 +87,8 @@ pub struct Run {
     pub count: usize,
 }
 
-// The runs that follow in the symbol begun last, from its place `place` on, and in those after it: each goes up to where lane I's bit wraps,
-// or up to the end of its symbol. `item` is the first item of the next run, kept so that no run takes a division.
+// The runs that follow in the symbol begun last, from its place `place` on, and in those after it: each goes up to where lane I's bit
+// wraps, or up to the end of its symbol. `item` is the first item of the next run, kept so that no run takes a division.
 #[derive(Drop)]
 pub struct Runs<'a> {
     pub symbols: Symbols<'a>,
@@ -153,13 +151,14 @@ fn half_cycle(place: usize, coded: &[u8; 256], cycle: &mut [u8])
 {
     let i = usize::from(lane_i(Place(place), 0));
     let q = usize::from(lane_q(Place(place), 0));
+    // By index: a zip would be of three parts, and nothing is proved of what a zip with `chunks_exact_mut` writes.
     for c in 0..128 {
         cycle[2 * c] = coded[i + c];
         cycle[2 * c + 1] = coded[q + c];
     }
 }
 
-// On each lane of the cycle the coded bit that it carries.
+// The cycle: the 512 lanes of 256 places under offset 0, I then Q, after which the bits repeat. On each lane the coded bit that it carries.
 fn cycle_of(coded: &[u8; 256]) -> [u8; 512]
     ensures { result ≡ tabulate 512 (λ q. slice_index coded.now (cycle_bit q)) }
 {

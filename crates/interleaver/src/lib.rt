@@ -56,7 +56,9 @@ struct Block<'a> {
 }
 
 impl Block<'_> {
-    // The four bits of nibble n, which is rotated by `rotation` and whose row starts at `first`, from rows to coded bits or back.
+    // The four bits of nibble n, which is rotated by `rotation` and whose row starts at `first`, from rows to coded bits or back. `BACK` is
+    // a const parameter all through: the clauses name both ways at once by `cond BACK`, so each law is one lemma. A trait of two types
+    // would have to say each law of both.
     fn move_word<const BACK: bool>(&self, n: usize, rotation: u32, first: usize, to: &mut [u8])
         requires { (rotation ≡ n / 2 % 4) × Within n first self.now.from.now to.old }
         ensures { to.new ≡ stored 4 (λ b. cond BACK (first + column n b) (n * 4 + b))
@@ -80,7 +82,9 @@ impl Block<'_> {
         self.move_word::<BACK>(n, (n / 2 % 4) as u32, first, to);
     }
 
-    // The parity nibble that the joined stream stands at, if it stands at one, and where the stream stands after it.
+    // The parity nibble that the joined stream stands at, if it stands at one, and where the stream stands after it. `continuous` is asked
+    // of the three methods that go by groups, and by no type: `Block` is also of shapes of pairs, and a second struct would wrap it for one
+    // fact.
     fn move_parity<const BACK: bool>(&self, at: Stand, to: &mut [u8]) -> Stand
         requires { (coded_of self.now.shape ≤ length to.old) × (self.now.shape.continuous ≡ true) × Stands self.now.shape at × (at.nibble < self.now.shape.rows + self.now.shape.parity) }
         ensures stands { (result.nibble ≡ at.nibble + cond (is_parity self.now.shape at.nibble) 1 0) × (Stands self.now.shape result) × (0 < result.left) }
@@ -163,8 +167,8 @@ impl Block<'_> {
         }
     }
 
-    // Pairs of a pass, as long as the row is below `end`. Both nibbles of a pair are rotated alike, and its parity row stands `apart` after its
-    // data row. One walk for this and `move_data` would promise either what `DataRun` leads to or what `PairRun` does, by a flag.
+    // Pairs of a pass, as long as the row is below `end`. Both nibbles of a pair are rotated alike, and its parity row stands `apart` after
+    // its data row. One walk for this and `move_data` would promise either what `DataRun` leads to or what `PairRun` does, by a flag.
     fn move_run<const BACK: bool>(&self, start: Run, end: usize, apart: usize, to: &mut [u8]) -> Run
         requires { (coded_of self.now.shape ≤ length to.old) × PairRun self.now.shape start end apart }
         ensures stands { (start.nibble ≤ result.nibble) × (Runs self.now.shape result) × (result.row % self.now.shape.step ≡ start.row % self.now.shape.step) × (end ≤ result.row) }

@@ -23,7 +23,8 @@ pub struct Shape {
     // data nibbles to a parity nibble, and how many of them come before it
     pub group: usize,
     pub lead: usize,
-    // parity rows are read on without a restart
+    // Parity rows are read on without a restart: a number of the shape like the others, which the definitions read too, and by which
+    // `interleaver::move_bits` picks its walk.
     pub continuous: bool,
 }
 

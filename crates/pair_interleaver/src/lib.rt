@@ -38,7 +38,7 @@ fn split(src: &[u8], base: u8, out: &mut [u8])
     requires { (0 < base) × (length src.now < 2081) × (length out.old ≡ 2 * length src.now) }
     ensures { EachIndex out.new (λ t. slice_index out.new t ≡ digit_of base src.now t) }
 {
-    // By index, since nothing is known of what a zip with `chunks_exact_mut` wrote.
+    // By index: with a zip of `chunks_exact_mut`, `returns` stays open.
     for (i, x) in src.iter().enumerate() {
         out[2 * i] = *x / base % base;
         out[2 * i + 1] = *x % base;
@@ -60,7 +60,7 @@ fn list_twice(bytes: &[u8], out: &mut [u8])
     bits::put(first, again);
 }
 
-// The table's entries, each moved up.
+// The table's entries, each moved up. The table by index: with a zip of `iter_mut` and the table, `returns` stays open.
 fn moved_up(starts: &[u16], by: u16, out: &mut [u16])
     requires { (length out.old ≡ length starts.now) × SumsFit starts.now by }
     ensures { EachIndex out.new (λ k. slice_index out.new k ≡ slice_index starts.now k + by) }
@@ -76,6 +76,7 @@ fn places(starts: &[u16], out: &mut [u16])
     ensures { EachIndex out.new (λ x. slice_index out.new x ≡ place_in starts.now x) }
 {
     let n = starts.len();
+    // By index: `chunks_exact_mut(n)` asks that the table isn't empty, which this contract doesn't ask.
     for r in 0..4 {
         let at = r * n;
         moved_up(starts, ((3 - r) * n) as u16, &mut out[at..at + n]);
@@ -96,7 +97,7 @@ fn gather(places: &[u16], list: &[u8], out: &mut [u8])
     requires { Gathering places.now list.now out.old }
     ensures { EachIndex out.new (λ i. slice_index out.new i ≡ four_from (picked places.now list.now) i) }
 {
-    // By index, since nothing is known of what a zip of `iter_mut` and `chunks_exact` wrote.
+    // By index: with a zip of `iter_mut` and `chunks_exact`, `returns` stays open.
     for (i, byte) in out.iter_mut().enumerate() {
         *byte = constituent::four(
             pick(places, list, 4 * i),
@@ -114,6 +115,7 @@ fn interleave(places: &[u16], list: &[u8], out: &mut [u8])
 {
     let n = out.len();
     let width = places.len() / 4;
+    // By index: with `chunks_exact_mut(width).enumerate()`, the bound of `base` stays open.
     for r in 0..n / width {
         let at = r * width;
         let base = 4 * (n - at) - 3 * width;

@@ -38,7 +38,8 @@ fn of_two(a: u8, b: u8) -> u8
     votes::majority(zeros, ones)
 }
 
-// What items that are the only copies of the bits in order decide, at the start of `out`.
+// What items that are the only copies of the bits in order decide, at the start of `out`. By index on one side here and in `decide_twos`,
+// since nothing is proved of what a zip of `iter_mut` writes: the loop's invariant can't name `out` while the iterator has it.
 fn decide_ones(items: &[u8], out: &mut [u8])
     requires { length items.now ≤ length out.old }
     ensures { out.new ≡ written (length items.now)
@@ -75,7 +76,8 @@ fn decide_once(l: Layout, items: &[u8], out: &mut [u8])
 // The fewest bits of a group that are counted as a run: from here on several are counted at a time.
 const SHORTEST_RUN: usize = 8;
 
-// The carriers of `items`, put back where the given order takes them from.
+// The carriers of `items`, put back where the given order takes them from. The items by index: `chunks_exact` asks that a chunk isn't
+// empty, and this contract is for any BITS.
 fn spread_by<const BITS: usize>(order: &[u16], items: &[u8], group: &mut [u8])
     requires room { (length order.now * BITS ≤ length items.now) × (length order.now * BITS ≤ length group.old) }
     requires permutes { Permutes (length order.now) (λ p. get_or order.now p 0) }
@@ -86,7 +88,7 @@ fn spread_by<const BITS: usize>(order: &[u16], items: &[u8], group: &mut [u8])
     }
 }
 
-// The same, of carriers with so many bits each.
+// The same, of carriers with so many bits each. The width is picked as in `payload_copying::gather`.
 fn spread(bits: usize, order: &[u16], items: &[u8], group: &mut [u8])
     requires carrier_bits { (CarrierBits bits) × (length order.now ≤ 410) × (length order.now * bits ≤ length items.now) × (length order.now * bits ≤ length group.old) }
     requires permutes { Permutes (length order.now) (λ p. get_or order.now p 0) }
@@ -143,9 +145,9 @@ fn count_narrow(slots: &Slots, slot: Slot, items: &[u8], counters: &mut [u8])
     ensures { counters.new ≡ counted slots.now.layout.coded (group_bits slots.now.layout) (slot_on slots.now.layout slot.copy slot.group) items.now counters.old }
 {
     let from = slot.group * slots.group_carriers();
-    for (p, &address) in slots.order(slot.copy).iter().enumerate() {
+    for (&address, &item) in slots.order(slot.copy).iter().zip(items) {
         let at = padded_bit(slots, slot.copy, from + usize::from(address));
-        counters[at] = votes::voted(counters[at], items[p]);
+        counters[at] = votes::voted(counters[at], item);
     }
 }
 
@@ -167,6 +169,7 @@ fn count_slots(slots: &Slots, items: &[u8], counters: &mut [u8])
     ensures { counters.new ≡ counted slots.now.layout.coded (items_of slots.now.layout) (carries slots.now.layout) items.now (middles slots.now.layout) }
 {
     let group_bits = slots.group_bits();
+    // a slot's group, of 816 bits at most, as in `payload_copying`
     let mut group = [0u8; 816];
     for slot in slots.walk() {
         let end = slot.start + group_bits;

@@ -16,7 +16,8 @@ use payload_layout::Layout;
 
 // ---- the slots
 
-// A layout of more than one copy, and the addresses of its interleavers, side by side.
+// A layout of more than one copy, and the addresses of its interleavers, side by side: 410 at most, which is band 0 in five copies (10
+// interleavers of 41 carriers). A ghost field's fact may have one proof only, which `by` shows of a record field by field.
 #[derive(Drop)]
 pub struct Slots {
     pub layout: Layout,
@@ -33,7 +34,9 @@ pub struct Place {
     pub group: usize,
 }
 
-// A slot in which a group of a copy stands. Its items run from `start` to `end`, and the group's are the first of them.
+// A slot in which a group of a copy stands. Its items run from `start` to `end`, and the group's are the first of them. It goes with its
+// slots through the functions that ask `Carries`, since alone it doesn't say whose it is, and with a reference to them each step would
+// borrow them.
 #[derive(Clone, Copy)]
 pub struct Slot {
     pub copy: usize,
@@ -212,7 +215,8 @@ pub fn copy_carrier<const BITS: usize>(src: &[u8], from: usize, out: &mut [u8], 
     }
 }
 
-// The carriers of `src` in the given order, at the start of `out`.
+// The carriers of `src` in the given order, at the start of `out`. By index, since `chunks_exact_mut` asks that a chunk isn't empty, and
+// this contract is for any BITS.
 fn gather_by<const BITS: usize>(order: &[u16], src: &[u8], out: &mut [u8])
     requires room { length order.now * BITS ≤ length out.old }
     requires by_index { (p : ℕ) → p < length order.now → get_or order.now p 0 * BITS + BITS ≤ length src.now }
@@ -223,7 +227,8 @@ fn gather_by<const BITS: usize>(order: &[u16], src: &[u8], out: &mut [u8])
     }
 }
 
-// The same, of carriers with so many bits each.
+// The same, of carriers with so many bits each. The width is a const parameter, so that the loop over a carrier's bits has a fixed count.
+// The match stands here and in `payload_combining::spread`: one for both would take the two loops as closures.
 fn gather(bits: usize, order: &[u16], src: &[u8], out: &mut [u8])
     requires carrier_bits { (CarrierBits bits) × (length order.now ≤ 410) × (length order.now * bits ≤ length out.old) }
     requires by_index { (p : ℕ) → p < length order.now → get_or order.now p 0 * bits + bits ≤ length src.now }
@@ -236,7 +241,7 @@ fn gather(bits: usize, order: &[u16], src: &[u8], out: &mut [u8])
     }
 }
 
-// A copy's last group: the rest of the data, and its pad.
+// A copy's last group: the rest of the data, and its pad. A group has 816 bits at most: band 0 in two copies, 204 carriers of 4 bits.
 fn last_group(from: usize, tail: usize, pad: usize, coded: &[u8]) -> [u8; 816]
     requires { (from ≤ length coded.now) × (tail + pad ≤ length coded.now) × (length coded.now < 65536) × (length coded.now + pad ≤ from + 816) }
     ensures { (length result ≡ 816) × (LastGroup from tail pad coded.now result) }
@@ -276,7 +281,7 @@ fn lay_slot(slots: &Slots, slot: Slot, coded: &[u8], out: &mut [u8])
     bits::fill(slot.end - slot.start - used, 0, &mut out[used..]);
 }
 
-// All items, slot by slot.
+// All items, slot by slot. By each slot's start and not by chunks, since a symbol's last slot is wider, by the unused carriers.
 fn lay_slots(slots: &Slots, coded: &[u8], out: &mut [u8])
     requires { (length coded.now ≡ slots.now.layout.coded) × (items_of slots.now.layout ≤ length out.old) }
     ensures { out.new ≡ written (items_of slots.now.layout) (sent_on slots.now.layout (λ b. get_or coded.now b 0)) out.old }

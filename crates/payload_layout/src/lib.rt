@@ -26,8 +26,8 @@ const INTERLEAVERS: [Interleavers; 6] = [
     Interleavers { all: 11, group: 1 },
 ];
 
-// The numbers of a payload's layout. That they fit together (`Laid`) is asked where it is needed: `layout_of` promises the section's numbers
-// for any count of coded bits, and `Laid` holds for those of a block.
+// The numbers of a payload's layout. That they fit together (`Laid`) is asked where it is needed: `layout_of` promises the section's
+// numbers for any count of coded bits, and `Laid` holds for those of a block.
 #[derive(Clone, Copy)]
 pub struct Layout {
     // carriers of a symbol, bits a carrier, and symbols
@@ -46,7 +46,8 @@ pub struct Layout {
     pub step: usize,
 }
 
-// The column for so many copies.
+// The column for so many copies. That their code is one of the six, and that there are coded bits, fewer than 65536, stands in three
+// contracts and in no type: `layout_of` is called with plain numbers, and promises what `layout_of` of specs/ says of just these.
 fn column(copies: usize) -> Interleavers
     requires { copy_code copies < 6 }
     ensures { (result.all ≡ all_interleavers copies) × (result.group ≡ group_interleavers copies) }
@@ -87,6 +88,7 @@ fn shift_run(copies: usize, last: usize, group: usize) -> usize
     match copies {
         4 if last <= group => 4,
         4 if last <= 2 * group => 2,
+        // 4 is meant, and not 1: by the section's cases (000, 5.1.5.5.4) no copy is shifted here
         4 if last <= 3 * group => 4,
         4 => 1,
         _ if last <= (copies - 1) * group => copies,
