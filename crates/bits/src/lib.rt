@@ -45,8 +45,8 @@ pub fn put(src: &[u8], out: &mut [u8])
     }
 }
 
-// The number in n bytes from `at` on, the highest byte first. By a loop: n is not fixed, and `from_be_bytes` takes an array of eight, into which
-// they would have to be put first.
+// The number in n bytes from `at` on, the highest byte first. By a loop: n is not fixed, and `from_be_bytes` takes an array of eight, into
+// which they would have to be put first.
 pub fn number_at(bytes: &[u8], at: usize, n: usize) -> u64
     requires { (n ≤ 8) × (at + n ≤ length bytes.now) }
     ensures { result ≡ field bytes.now (8 * at) (8 * n) }
@@ -119,8 +119,8 @@ pub fn rotated(word: u32, by: u32) -> u32
     word.rotate_left(by * 8)
 }
 
-// A word whose bytes are rotated back down so many places. Up and down are a function each: either is one call of the library and has a law of
-// its own, and with the direction as a parameter there would be a choice more at each nibble and no line less.
+// A word whose bytes are rotated back down so many places. Up and down are a function each: either is one call of the library and has a law
+// of its own, and with the direction as a parameter there would be a choice more at each nibble and no line less.
 pub fn rotated_back(word: u32, by: u32) -> u32
     requires { by < 4 }
     ensures { (b : ℕ) → b < 4 → word_byte result b ≡ word_byte word ((b + by) % 4) }
