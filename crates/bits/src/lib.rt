@@ -58,8 +58,8 @@ pub fn number_at(bytes: &[u8], at: usize, n: usize) -> u64
     number
 }
 
-// The lowest n bytes of a number at the start of `out`, the highest byte first. The slice may be longer, as callers' slices are, here and in
-// `fill` and `pack`: so how many are written is a parameter beside it, as the contracts have it.
+// The lowest n bytes of a number at the start of `out`, the highest byte first. The slice may be longer, as callers' slices are, here and
+// in `fill` and `pack`: so how many are written is a parameter beside it, as the contracts have it.
 pub fn put_number(number: u64, n: usize, out: &mut [u8])
     requires { (n ≤ 8) × (n ≤ length out.old) }
     ensures { out.new ≡ written n (λ k. number / 2 ^ (8 * (n - 1 - k)) % 256) out.old }
