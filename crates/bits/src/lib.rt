@@ -45,8 +45,8 @@ pub fn put(src: &[u8], out: &mut [u8])
     }
 }
 
-// The number in n bytes from `at` on, the highest byte first. By a loop: n is not fixed, and `from_be_bytes` takes an array of eight, into which
-// they would have to be put first.
+// The number in n bytes from `at` on, the highest byte first. By a loop: n is not fixed, and `from_be_bytes` takes an array of eight, into
+// which they would have to be put first.
 pub fn number_at(bytes: &[u8], at: usize, n: usize) -> u64
     requires { (n ≤ 8) × (at + n ≤ length bytes.now) }
     ensures { result ≡ field bytes.now (8 * at) (8 * n) }
@@ -58,8 +58,8 @@ pub fn number_at(bytes: &[u8], at: usize, n: usize) -> u64
     number
 }
 
-// The lowest n bytes of a number at the start of `out`, the highest byte first. The slice may be longer, as callers' slices are, here and in
-// `fill` and `pack`: so how many are written is a parameter beside it, as the contracts have it.
+// The lowest n bytes of a number at the start of `out`, the highest byte first. The slice may be longer, as callers' slices are, here and
+// in `fill` and `pack`: so how many are written is a parameter beside it, as the contracts have it.
 pub fn put_number(number: u64, n: usize, out: &mut [u8])
     requires { (n ≤ 8) × (n ≤ length out.old) }
     ensures { out.new ≡ written n (λ k. number / 2 ^ (8 * (n - 1 - k)) % 256) out.old }
@@ -119,8 +119,8 @@ pub fn rotated(word: u32, by: u32) -> u32
     word.rotate_left(by * 8)
 }
 
-// A word whose bytes are rotated back down so many places. Up and down are a function each: either is one call of the library and has a law of
-// its own, and with the direction as a parameter there would be a choice more at each nibble and no line less.
+// A word whose bytes are rotated back down so many places. Up and down are a function each: either is one call of the library and has a law
+// of its own, and with the direction as a parameter there would be a choice more at each nibble and no line less.
 pub fn rotated_back(word: u32, by: u32) -> u32
     requires { by < 4 }
     ensures { (b : ℕ) → b < 4 → word_byte result b ≡ word_byte word ((b + by) % 4) }

@@ -179,8 +179,8 @@ impl Card {
         self.has_defined_mode() && self.has_defined_counts()
     }
 
-    // The ten fields in order at the start of `fields`. One by one: copying a slice needs memmove, and the library is to need memcpy and memset
-    // alone (include/hplc.h, tests/c.sh).
+    // The ten fields in order at the start of `fields`. One by one: copying a slice needs memmove, and the library is to need memcpy and
+    // memset alone (include/hplc.h, tests/c.sh).
     fn put_fields(&self, fields: &mut [u64])
         requires { 10 ≤ length fields.old }
         ensures { fields.new ≡ fields_of self.now ++ drop 10 fields.old }

@@ -1,8 +1,8 @@
 // Four columns of bits of some height, filled column by column: from bytes, most significant bit first, to rows of four elements, each
 // 0 or 1, and back. Loops go over indices and not over chunks, since most of their indices are places on both sides.
 //
-// That a height is at most 130 is a clause and no type: it bounds the arithmetic alone, of a height in bytes in the functions by words and in
-// bits in the others. `ServedHeight` says what a height is, and only the two public functions ask it.
+// That a height is at most 130 is a clause and no type: it bounds the arithmetic alone, of a height in bytes in the functions by words and
+// in bits in the others. `ServedHeight` says what a height is, and only the two public functions ask it.
 //
 // Internal: nothing here is a public entry. A function with a `requires` is called only where its caller has shown it.
 #![tactic(auto)]

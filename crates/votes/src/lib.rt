@@ -18,8 +18,8 @@ pub fn same(a: u8, b: u8) -> u8
     u8::from(a == b)
 }
 
-// The strict majority of two counts: 0, 1, or 2 where there is none. A number, since a decided bit is an item again, of which 2 means lost, as
-// the definitions `majority` and `decided` have it.
+// The strict majority of two counts: 0, 1, or 2 where there is none. A number, since a decided bit is an item again, of which 2 means lost,
+// as the definitions `majority` and `decided` have it.
 #[tactic(auto, unfolding(crate::specs::Votes::majority))]
 pub fn majority(zeros: u8, ones: u8) -> u8
     ensures { result ≡ majority_of zeros ones }
