@@ -2,7 +2,9 @@
 // 0 or 1, and back. Loops go over indices and not over chunks, since most of their indices are places on both sides.
 //
 // That a height is at most 130 is a clause and no type: it bounds the arithmetic alone, of a height in bytes in the functions by words and
-// in bits in the others. `ServedHeight` says what a height is, and only the two public functions ask it.
+// in bits in the others. `ServedHeight` says what a height is, and only the two public functions ask it. That elements are below 2 is a
+// clause too: they are parts of lent slices, of which a type would be made anew at each part. The array of a short height has the most that
+// such a height takes: memory is fixed, with no heap.
 //
 // Internal: nothing here is a public entry. A function with a `requires` is called only where its caller has shown it.
 #![tactic(auto)]

@@ -1,5 +1,6 @@
 // The bits that received items of a frame control decide: the votes of its copies, counted on the lanes of the cycle that `diversity`
-// copies from, and their strict majority.
+// copies from, and their strict majority. What is decided is an item again, 2 where there is no majority, and no Option: see
+// `votes::majority`.
 //
 // Internal: nothing here is a public entry, and callers show what a function requires.
 #![tactic(auto)]
@@ -39,7 +40,8 @@ fn pair(i: u8, q: u8) -> u16
     u16::from_le_bytes([i, q])
 }
 
-// A pair for each place of the cycle, since a loop reads pairs in a row faster than every other byte.
+// A pair for each place of the cycle, since a loop reads pairs in a row faster than every other byte. By index, since the counters of two
+// lanes make one element.
 fn pairs(counters: &[u8; 512]) -> [u16; 256]
     ensures { result ≡ tabulate 256 (λ p. get_or counters.now (2 * p) 0 + 256 * get_or counters.now (2 * p + 1) 0) }
 {

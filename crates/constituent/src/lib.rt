@@ -45,7 +45,8 @@ pub fn pair_in(byte: u8, j: usize) -> u8
     (byte >> (6 - 2 * j)) % 4
 }
 
-// What a byte does to an encoder: its four parity bits, two places each, and eight times the state after it.
+// What a byte does to an encoder: its four parity bits, two places each, and eight times the state after it. The index is a pair's place in
+// the byte.
 fn byte_word(taps: u16, state: u8, byte: u8) -> u16
     requires { state < 8 }
     ensures { result ≡ byte_word taps state byte }

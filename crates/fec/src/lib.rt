@@ -55,6 +55,7 @@ fn encode_by<const N: usize>(coding: Coding, bytes: &[u8], out: &mut [u8])
 }
 
 // The coded bits of a block, at the start of `out`. Short blocks have shorter arrays, since a longer one takes longer to clear.
+// `recovery::recover` has the same three sizes.
 pub fn encode(coding: Coding, bytes: &[u8], out: &mut [u8])
     requires { (length bytes.now ≡ block_bytes coding.kind) × (coded_bits coding.kind coding.rate ≤ length out.old) }
     ensures { out.new ≡ written (coded_bits coding.kind coding.rate) (coded_bit coding.kind coding.rate coding.taps (bit_of bytes.now)) out.old }

@@ -18,7 +18,7 @@ use coding::Coding;
 use diversity::Symbols;
 use refusal::Refusal;
 
-// The symbols of a card's band.
+// The symbols of a card's band. No `From`: only a card that is served has them, which a contract can ask and a `From` can't.
 fn symbols_of(c: &Card) -> Symbols<'static>
     requires { Served 0 0 c.now }
     ensures { (result.carriers ≡ carriers c.now.band) × (result.offsets.now ≡ offsets c.now.band) }

@@ -46,7 +46,7 @@ fn split(src: &[u8], base: u8, out: &mut [u8])
 }
 
 // The pairs of some bytes, twice, so that a place that runs past the last pair needs no test. Two steps of splitting are faster than
-// one.
+// one. The array has the most that a block has, as `rows` of `second_bytes` has: memory is fixed, with no heap.
 fn list_twice(bytes: &[u8], out: &mut [u8])
     requires { (length bytes.now ≤ 520) × (length out.old ≡ 8 * length bytes.now) }
     ensures { EachIndex out.new (λ t. slice_index out.new t ≡ twice (4 * length bytes.now) (pair_at (bit_of bytes.now)) t) }
@@ -76,7 +76,7 @@ fn places(starts: &[u16], out: &mut [u16])
     ensures { EachIndex out.new (λ x. slice_index out.new x ≡ place_in starts.now x) }
 {
     let n = starts.len();
-    // By index: `chunks_exact_mut(n)` asks that the table isn't empty, which this contract doesn't ask.
+    // By index: where a row starts and how far it is moved both go by it; `chunks_exact_mut(n)` would ask besides that the table isn't empty.
     for r in 0..4 {
         let at = r * n;
         moved_up(starts, ((3 - r) * n) as u16, &mut out[at..at + n]);

@@ -1,4 +1,5 @@
 // The coded bits that received items of a payload decide: by strict majority of their copies, which are counted slot by slot.
+// What is decided is an item again, 2 where there is no majority, and no Option: see `votes::majority`.
 //
 // Internal: nothing here is a public entry, and callers show what a function requires.
 #![tactic(auto)]
@@ -76,8 +77,8 @@ fn decide_once(l: Layout, items: &[u8], out: &mut [u8])
 // The fewest bits of a group that are counted as a run: from here on several are counted at a time.
 const SHORTEST_RUN: usize = 8;
 
-// The carriers of `items`, put back where the given order takes them from. The items by index: `chunks_exact` asks that a chunk isn't
-// empty, and this contract is for any BITS.
+// The carriers of `items`, put back where the given order takes them from. By index: `copy_carrier` takes a place on both sides,
+// one of them from the order.
 fn spread_by<const BITS: usize>(order: &[u16], items: &[u8], group: &mut [u8])
     requires room { (length order.now * BITS ≤ length items.now) × (length order.now * BITS ≤ length group.old) }
     requires permutes { Permutes (length order.now) (λ p. get_or order.now p 0) }

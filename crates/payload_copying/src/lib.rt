@@ -215,8 +215,8 @@ pub fn copy_carrier<const BITS: usize>(src: &[u8], from: usize, out: &mut [u8], 
     }
 }
 
-// The carriers of `src` in the given order, at the start of `out`. By index, since `chunks_exact_mut` asks that a chunk isn't empty, and
-// this contract is for any BITS.
+// The carriers of `src` in the given order, at the start of `out`. By index: `copy_carrier` takes a place on both sides, one of them from
+// the order.
 fn gather_by<const BITS: usize>(order: &[u16], src: &[u8], out: &mut [u8])
     requires room { length order.now * BITS ≤ length out.old }
     requires by_index { (p : ℕ) → p < length order.now → get_or order.now p 0 * BITS + BITS ≤ length src.now }

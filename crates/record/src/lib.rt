@@ -32,7 +32,8 @@ pub struct Record {
     pub value: u64,
 }
 
-// What a call gave: the number, what comes with it, and whether these and the output are as a record expects.
+// What a call gave: the number, what comes with it, and whether these and the output are as a record expects. That is a fact beside the
+// numbers, which are printed whether they agree or not.
 #[derive(Clone, Copy)]
 pub struct Given {
     pub number: u64,
@@ -40,14 +41,14 @@ pub struct Given {
     pub agrees: bool,
 }
 
-// Byte i of some bytes, and of an untouched output beyond them.
+// Byte i of some bytes, and of an untouched output beyond them: no Option, as the definition has it.
 pub fn byte_at(s: &[u8], i: usize) -> u8
     ensures { result ≡ byte_at s.now i }
 {
     if i < s.len() { s[i] } else { UNTOUCHED }
 }
 
-// The word of eight bytes from `at` on, and of an untouched output where there are fewer.
+// The word of eight bytes from `at` on, and of an untouched output where there are fewer, as the definition has it.
 pub fn word_at(s: &[u8], at: usize) -> u64
     ensures { result ≡ word_at s.now at }
 {
@@ -81,7 +82,7 @@ pub fn float_of(bits: u64) -> f64
     }
 }
 
-// Whether a float is no NaN, and has some bits.
+// Whether a float is no NaN, and has some bits. By bits, since `==` takes 0 and -0 as one.
 fn has_bits(x: f64, bits: u64) -> bool
     ensures { result ≡ has_bits x bits }
 {

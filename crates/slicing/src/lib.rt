@@ -1,5 +1,5 @@
 // Received carriers back to items (paper 01, "Points"; paper 02, T-02), by the factors and labels of `constellation`: 0, 1, or 2 where
-// a coordinate is lost. The threshold and the erasure width stand here.
+// a coordinate is lost: an item like the others, as the papers have it, and no Option. The threshold and the erasure width stand here.
 //
 // Public entries, none with a `requires`: slice, and slice_into, the same over lent memory. The rest is internal. A modulation is a number
 // and no enum, as in `constellation`: `slicing` of specs/ takes every number, and the entries answer 3 to each that is no modulation.

@@ -105,7 +105,7 @@ impl Encoder {
     }
 
     // The kept parity bits of a block, eight to a byte, at the start of `out`. `second` holds the pairs that encoder 2 reads. A rate that
-    // keeps all needs no puncturing.
+    // keeps all needs no puncturing. Memory is fixed, with no heap: the array has the most that a block has.
     fn kept_parity(self, bytes: &[u8], second: &[u8], out: &mut [u8])
         requires { Inputs self.kind bytes.now second.now × (kept_count self.kind self.rate / 8 ≤ length out.old) }
         ensures { out.new ≡ written (kept_count self.kind self.rate / 8) (byte_of (kept_bit self.kind self.rate self.taps (bit_of bytes.now))) out.old }
