@@ -70,8 +70,8 @@ fn level4(first: u8, second: u8) -> f64
     }
 }
 
-// The point of a carrier's bits, which are below 2 by a clause, since they are lent: each coordinate is one product. Each modulation returns its point: arms of a `match` would have the same
-// lines, a level deeper.
+// The point of a carrier's bits, which are below 2 by a clause, since they are lent: each coordinate is one product. Each modulation returns
+// its point: arms of a `match` would have the same lines, a level deeper.
 fn point_of(modulation: u8, bits: &[u8]) -> Point
     requires { (modulation < 3) × (length bits.now ≡ carrier_bits modulation) × ((k : ℕ) → k < length bits.now → get_or bits.now k 0 < 2) }
     ensures { result ≡ point_of modulation (λ k. get_or bits.now k 0) }
