@@ -35,9 +35,11 @@ judge() {
     function fact(words) {
       return words ~ /^it is not proved that/ ||
         words ~ /^(as printed|computed as far as they go), the two (types|values|sides) / ||
+        words ~ /^computed as a goal is, one side reads `/ ||
         words ~ /^expected type `/ ||
         words ~ /^`omega`: the (goal|part `[^`]*` of the goal) does not follow / ||
         words ~ /^`search`: no proof of `/ ||
+        words ~ /^`search` found no proof \(`/ ||
         words ~ /^`grind` found no proof/ ||
         words ~ /^give a proof of that as the last argument, / ||
         words ~ /^`cc`: the equations do not join /
