@@ -90,7 +90,8 @@ fn decide_counters(counters: &[u8; 512]) -> [u8; 256]
 
 // Each coded bit by strict majority of its copies: 0, 1, or 2 where there is none. A counter has room for the votes of 31 symbols.
 pub fn decide(symbols: &Symbols, items: &[u8]) -> [u8; 256]
-    requires { item_count symbols.now.carriers symbols.now.offsets.now ≤ length items.now }
+    requires few { length symbols.now.offsets.now < 32 }
+    requires whole { item_count symbols.now.carriers symbols.now.offsets.now ≤ length items.now }
     ensures { result ≡ tabulate 256 (decided (item_count symbols.now.carriers symbols.now.offsets.now) (carries (lane_bit symbols.now.carriers symbols.now.offsets.now)) items.now) }
 {
     decide_counters(&counters_of(symbols, items))

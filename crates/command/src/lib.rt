@@ -25,7 +25,9 @@ pub fn put_first(rt: &impl Print, bytes: &[u8], n: usize) -> io::Result<()> {
 
 // Argument i, at the start of `word`; it is empty where it is missing or there is no room for it. Argument 0 is the program's name. No
 // Option, since nobody asks which it was: an empty name opens no file, and a file that is missing counts as empty (D19).
-fn argument<'a>(rt: &impl Env, i: usize, word: &'a mut [u8]) -> &'a [u8] {
+fn argument<'a>(rt: &impl Env, i: usize, word: &'a mut [u8]) -> &'a [u8]
+    ensures { length result.now ≤ length word.old }
+{
     let n = rt.arg(i, word).unwrap_or(0);
     &word[..n]
 }

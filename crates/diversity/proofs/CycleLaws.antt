@@ -126,6 +126,7 @@ module _ (C : ℕ) (os : List ℕ) (s c n : ℕ) (at : n ≡ 2 * (s * C + c)) (i
       record {
         some = omega (arith, run-place);
         within = omega (arith, at, run-place, row_within s C (length os) run-symbol);
+        one_symbol = rw (from-symbol) (omega arith);
         on_cycle = omega arith;
         in_row = λ j l.
             rw (there j)
@@ -133,6 +134,11 @@ module _ (C : ℕ) (os : List ℕ) (s c n : ℕ) (at : n ≡ 2 * (s * C + c)) (i
             ∙ sym (run_lane (get_or os s 0) c b j m e (omega arith) l));
       }
     where
+      from-symbol : n % (2 * C) ≡ 2 * c
+      from-symbol =
+          let row : n ≡ s * (2 * C) + 2 * c = omega (arith, at) in
+          rw row (digits_mod s (omega (arith, run-place)))
+
       there : (j : ℕ) → n + j ≡ 2 * (s * C) + (2 * c + j)
       there j = omega (arith, at)
 

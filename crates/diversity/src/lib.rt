@@ -3,7 +3,7 @@
 // Internal: nothing here is a public entry, and callers show what a function requires.
 #![tactic(auto)]
 
-ghost use Rattle.std.specs.Prelude.{◌≡◌, ◌+◌, ◌-◌, ◌*◌, ◌%◌, ◌<◌, ◌≤◌, length, slice_index, MatchOption};
+ghost use Rattle.std.specs.Prelude.{◌≡◌, ◌+◌, ◌-◌, ◌*◌, ◌%◌, ◌^◌, ◌<◌, ◌≤◌, length, slice_index, MatchOption};
 ghost use Rattle.std.specs.Iterator.{at_most};
 ghost use Rattle.bits.specs.Lists.{tabulate, written};
 ghost use Rattle.bands.specs.Bands.{carriers, offsets};
@@ -12,19 +12,21 @@ ghost use Rattle.diversity.specs.Loops.Cycle.{cycle_bit, IsRun};
 
 use bands::{Band, Place};
 
-// A frame control's symbols: the carriers of each, and for each its offset.
+// A frame control's symbols: the carriers of each, and for each its offset. Their items can be counted; how many symbols there may be is
+// asked where it matters.
 #[derive(Clone, Copy)]
 pub struct Symbols<'a> {
     pub carriers: usize,
     pub offsets: &'a [u8],
     pub ghost narrow: { carriers ≤ 512 },
-    pub ghost few: { length offsets.now < 32 },
+    pub ghost countable: { item_count carriers offsets.now < 2 ^ 64 },
 }
 
 impl<'a> Symbols<'a> {
     // Those of a band.
     pub fn on(band: Band) -> Symbols<'static>
-        ensures { (result.carriers ≡ carriers band.number) × (result.offsets.now ≡ offsets band.number) }
+        ensures same { (result.carriers ≡ carriers band.number) × (result.offsets.now ≡ offsets band.number) }
+        ensures few { length result.offsets.now < 32 }
     {
         Symbols {
             carriers: band.carriers(),

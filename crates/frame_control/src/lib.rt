@@ -6,7 +6,7 @@
 // Public entries: `send` and `read`. Refusals are those of paper 01's table, in its order; a refusal keeps `out`.
 #![tactic(auto)]
 
-ghost use Rattle.std.specs.Prelude.{◌≡◌};
+ghost use Rattle.std.specs.Prelude.{◌≡◌, ◌<◌, length};
 ghost use Rattle.bands.specs.Bands.{carriers, offsets};
 ghost use Rattle.refusal.specs.Report.{answer};
 ghost use Rattle.card.specs.Gate.{Served};
@@ -21,7 +21,8 @@ use refusal::Refusal;
 // The symbols of a card's band. No `From`: only a card that is served has them, which a contract can ask and a `From` can't.
 fn symbols_of(c: &Card) -> Symbols<'static>
     requires { Served 0 0 c.now }
-    ensures { (result.carriers ≡ carriers c.now.band) × (result.offsets.now ≡ offsets c.now.band) }
+    ensures same { (result.carriers ≡ carriers c.now.band) × (result.offsets.now ≡ offsets c.now.band) }
+    ensures few { length result.offsets.now < 32 }
 {
     Symbols::on(Band {
         number: c.band as usize,
@@ -62,6 +63,7 @@ pub fn send(card: &[u8], word: &[u8], out: &mut [u8]) -> Result<usize, Refusal>
 
 // The word that the items on some symbols decide.
 fn read_by(symbols: &Symbols, taps: u16, items: &[u8], out: &mut [u8]) -> Result<usize, Refusal>
+    requires { length symbols.now.offsets.now < 32 }
     ensures answer { answer result ≡ (read_by symbols.now.carriers symbols.now.offsets.now taps items.now out.old).report }
     ensures word { out.new ≡ (read_by symbols.now.carriers symbols.now.offsets.now taps items.now out.old).out }
 {

@@ -4,12 +4,16 @@
 // written (D24): a function here promises nothing, and answers an error where a write fails.
 #![tactic(auto)]
 
+ghost use Rattle.std.specs.Prelude.{◌≤◌, length};
+
 use std::io;
 use std::io::{Cursor, Write};
 
 // The system's words of an error's text: the number of the error stands behind them, or zeros do. By index, since a place is judged by its
 // byte and by what begins there: `windows` as long as ` (os error ` would pass over the last places.
-fn words(text: &[u8]) -> &[u8] {
+fn words(text: &[u8]) -> &[u8]
+    ensures { length result.now ≤ length text.now }
+{
     for (i, b) in text.iter().enumerate() {
         if *b == 0 || text[i..].starts_with(b" (os error ") {
             return &text[..i];

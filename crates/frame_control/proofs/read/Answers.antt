@@ -34,6 +34,6 @@ returns c =
     let e = sym c.served_card.ensures ∙ ap answer c.in_ok-c.was in
     let passed = sym (read-passed a.card.now a.items.now a.out.now _ e) in
     record {
-      answer = (rw (c.symbols_of.ensures.0, c.symbols_of.ensures.1) at c.read_by.ensures.answer) ∙ ap (λ o. o.report) passed;
-      word = (rw (c.symbols_of.ensures.0, c.symbols_of.ensures.1) at c.read_by.ensures.word) ∙ ap (λ o. o.out) passed;
+      answer = (rw (c.symbols_of.ensures.same.0, c.symbols_of.ensures.same.1) at c.read_by.ensures.answer) ∙ ap (λ o. o.report) passed;
+      word = (rw (c.symbols_of.ensures.same.0, c.symbols_of.ensures.same.1) at c.read_by.ensures.word) ∙ ap (λ o. o.out) passed;
     }

@@ -13,7 +13,7 @@ overflow_add-self c =
     let self = c.args.self.now in
     let symbol : self.begun < length self.symbols.offsets.now
     = run-symbol self.symbols.carriers self.symbols.offsets.now self.begun 0 self.item (omega (arith, self.at_place)) (omega arith) c.requires in
-    omega (arith, symbol, self.symbols.few)
+    omega (arith, symbol)
 
 pub returns-then-self : goal.returns-then-self
 returns-then-self c =
