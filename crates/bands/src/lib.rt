@@ -51,7 +51,7 @@ const BANDS: [Row; 4] = [
     },
     Row {
         first: 72,
-        last: 120,
+        last: 120, // where band 2 ends, too
         symbols: 12,
     },
 ];
