@@ -78,9 +78,14 @@ impl Plan {
         payload_combining::decide(self.layout, items, &mut decided);
         let count = self.layout.coded;
         let mut block = [0u8; 520];
-        let size = recovery::recover(self.coding, &decided[..count], &mut block)?;
-        scrambler::scramble(&block[..size], out);
-        Ok(size)
+        // no `?`: the refusal has an arm of its own, in which the edit `count_of_one` names another
+        match recovery::recover(self.coding, &decided[..count], &mut block) {
+            Ok(size) => {
+                scrambler::scramble(&block[..size], out);
+                Ok(size)
+            }
+            Err(r) => Err(r),
+        }
     }
 }
 

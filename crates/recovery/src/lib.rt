@@ -85,7 +85,8 @@ fn recover_by<const N: usize>(
 
 // The bytes of a block from its decided coded bits, at the start of `out`, or refusal 7 or 8. Nothing is written before both checks
 // have passed. Short blocks have shorter arrays, since a longer one takes longer to clear. `fec::encode` has the same three sizes: one match
-// for both would take a function for any N, which no closure is.
+// for both would take a function for any N, which no closure is. Inlined, the search of frame control's 256 bits goes many at a time.
+#[inline(always)]
 pub fn recover(coding: Coding, decided: &[u8], out: &mut [u8]) -> Result<usize, Refusal>
     requires { (length decided.now ≡ coded_bits coding.kind coding.rate) × (block_bytes coding.kind ≤ length out.old) }
     ensures answer { answer result ≡ (recovered coding.kind coding.rate coding.taps (λ i. get_or decided.now i 0) out.old).report }
