@@ -27,6 +27,7 @@ struct Plan {
 
 impl Plan {
     // The plan of a card. No `From`: only a card that is served has one, which a contract can ask and a `From` can't.
+    #[inline(always)]
     fn of(c: &Card) -> Plan
         requires { Served 1 4 c.now }
         ensures layout { result.layout ≡ block_layout c.now }
