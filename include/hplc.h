@@ -91,8 +91,8 @@ enum hplc_number {
 #define HPLC_STACK_POINT 512
 #define HPLC_STACK_FC_SEND 4096
 #define HPLC_STACK_FC_READ 5120
-#define HPLC_STACK_PAYLOAD_SEND 28160
-#define HPLC_STACK_PAYLOAD_READ 29184
+#define HPLC_STACK_PAYLOAD_SEND 27648
+#define HPLC_STACK_PAYLOAD_READ 28672
 
 /* The library's version, as HPLC_VERSION has it. */
 uint32_t hplc_version(void);

@@ -26,7 +26,8 @@ struct Plan {
 }
 
 impl Plan {
-    // The plan of a card. No `From`: only a card that is served has one, which a contract can ask and a `From` can't.
+    // The plan of a card. No `From`: only a card that is served has one, which a contract can ask and a `From` can't. Inlined, since a card
+    // that is put into memory for a call takes half as long again to a refusal by 4.
     #[inline(always)]
     fn of(c: &Card) -> Plan
         requires { Served 1 4 c.now }
