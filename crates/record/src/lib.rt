@@ -3,9 +3,11 @@
 // Internal: nothing here is a public entry.
 #![tactic(auto)]
 
-ghost use Rattle.std.specs.Prelude.{◌≡◌, Bool, ◌&&◌, List, ℕ, ◌+◌, ◌/◌, ◌<◌, eqb, length};
+ghost use Rattle.std.specs.Prelude.{◌≡◌, Bool, true, false, ◌&&◌, List, ℕ, [], ◌+◌, ◌*◌, ◌/◌, ◌<◌, ◌≤◌, eqb, length};
 ghost use Rattle.std.specs.Float.Ieee.{nan_bits, of_bits};
 ghost use Rattle.std.specs.Float.{binary64};
+ghost use native.Mathlib.Omega.{arith};
+ghost use borrow.Author.Tests.{le-ltb, lt-ltb};
 ghost use Rattle.bits.specs.Ranges.{all_below};
 ghost use Rattle.refusal.specs.Report.{answer};
 ghost use Rattle.record.specs.Expected.{byte_at, most, word_at, has_bits, same_byte, same_word, same_float, holds, compared as compared_with};
@@ -109,6 +111,9 @@ pub trait Element: Copy {
     fn same(out: &[Self], expected: &[u8], i: usize) -> bool
         requires { i < length out.now }
         ensures { result ≡ same out.now expected.now i };
+
+    // Beyond what is expected an element is as expected where nothing is: untouched.
+    ghost beyond: { (out : List Self) → (expected : List ℕ) → (i : ℕ) → count (length expected) ≤ i → same out expected i ≡ same out [] i };
 }
 
 impl Element for u8 {
@@ -117,6 +122,8 @@ impl Element for u8 {
     ghost count = { λ n. n };
 
     ghost same = { same_byte };
+
+    ghost beyond = { λ out expected i h. Prim.simp (le-ltb i (length expected) h, le-ltb i 0 (Prim.omega arith)) };
 
     fn untouched() -> u8 {
         UNTOUCHED
@@ -138,6 +145,8 @@ impl Element for u64 {
 
     ghost same = { same_word };
 
+    ghost beyond = { λ out expected i h. Prim.simp (lt-ltb (length expected) (8 * i + 8) (Prim.omega (arith, h)), lt-ltb 0 (8 * i + 8) (Prim.omega arith)) };
+
     fn untouched() -> u64 {
         UNTOUCHED_WORD
     }
@@ -157,6 +166,8 @@ impl Element for f64 {
     ghost count = { λ n. n / 8 };
 
     ghost same = { same_float };
+
+    ghost beyond = { λ out expected i h. Prim.simp (lt-ltb (length expected) (8 * i + 8) (Prim.omega (arith, h)), lt-ltb 0 (8 * i + 8) (Prim.omega arith)) };
 
     fn untouched() -> f64 {
         float_of(UNTOUCHED_WORD)
@@ -179,12 +190,31 @@ pub fn untouched<T: Element, const N: usize>() -> [T; N]
     [T::untouched(); N]
 }
 
-// Whether each element of an output is as expected. By index, since an expected word has eight bytes: element i is compared with the bytes
-// that begin at `8 * i`, as the ghost `same` of `Element` has it.
+// Whether the elements of an output from one on, up to another, are as expected. By index, since an expected word has eight bytes:
+// element i is compared with the bytes that begin at `8 * i`, as the ghost `same` of `Element` has it.
+fn same_between<T: Element>(from: usize, to: usize, out: &[T], expected: &[u8]) -> bool
+    requires { (from ≤ to) × (to ≤ length out.now) }
+    ensures alike { result ≡ true → (i : ℕ) → from ≤ i → i < to → T.same out.now expected.now i ≡ true }
+    ensures other { result ≡ false → (i : ℕ) × (from ≤ i) × (i < to) × (T.same out.now expected.now i ≡ false) }
+{
+    for i in from..to {
+        if !T::same(out, expected, i) {
+            return false;
+        }
+    }
+    true
+}
+
+// Whether each element of an output is as expected. Those beyond what is expected go by themselves: they are compared with one value, which
+// goes many at a time.
 fn all_same<T: Element>(out: &[T], expected: &[u8]) -> bool
     ensures { result ≡ all_below (length out.now) (T.same out.now expected.now) }
 {
-    (0..out.len()).all(|i| T::same(out, expected, i))
+    let count = T::count(expected);
+    if out.len() <= count {
+        return same_between(0, out.len(), out, expected);
+    }
+    same_between(0, count, out, expected) && same_between(count, out.len(), out, &[])
 }
 
 // Whether an output has what is expected at its start and is untouched beyond.
