@@ -121,7 +121,8 @@ fn read_number(file: &mut impl Read, width: usize) -> Result<u64, Broken>
     Ok(u64::from_be_bytes(bytes))
 }
 
-// Reads as many bytes to the start of `out`.
+// Reads as many bytes to the start of `out`. Inlined, as is `read_part`, so that where a record's parts lie is known where they are compared.
+#[inline(always)]
 fn read_bytes<'a>(file: &mut impl Read, count: u64, out: &'a mut [u8]) -> Result<&'a [u8], Broken>
     ensures { AtMost (length out.old) result }
 {
@@ -135,6 +136,7 @@ fn read_bytes<'a>(file: &mut impl Read, count: u64, out: &'a mut [u8]) -> Result
 }
 
 // Reads a length of four bytes, and as many bytes.
+#[inline(always)]
 fn read_part<'a>(file: &mut impl Read, out: &'a mut [u8]) -> Result<&'a [u8], Broken>
     ensures { AtMost (length out.old) result }
 {
