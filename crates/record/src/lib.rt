@@ -191,7 +191,9 @@ pub fn untouched<T: Element, const N: usize>() -> [T; N]
 }
 
 // Whether the elements of an output from one on, up to another, are as expected. By index, since an expected word has eight bytes:
-// element i is compared with the bytes that begin at `8 * i`, as the ghost `same` of `Element` has it.
+// element i is compared with the bytes that begin at `8 * i`, as the ghost `same` of `Element` has it. Inlined, as its callers are, so that
+// where both lie is known, and bytes go many at a time.
+#[inline(always)]
 fn same_between<T: Element>(from: usize, to: usize, out: &[T], expected: &[u8]) -> bool
     requires { (from ≤ to) × (to ≤ length out.now) }
     ensures alike { result ≡ true → (i : ℕ) → from ≤ i → i < to → T.same out.now expected.now i ≡ true }
@@ -205,8 +207,40 @@ fn same_between<T: Element>(from: usize, to: usize, out: &[T], expected: &[u8]) 
     true
 }
 
+// How many untouched elements are looked at before a difference counts.
+const BLOCK: usize = 64;
+
+// Whether the elements of a block, from one on, are untouched. It goes to its end, whatever it finds, so that many go at a time.
+fn block_untouched<T: Element>(from: usize, out: &[T]) -> bool
+    requires { from + 64 ≤ length out.now }
+    ensures alike { result ≡ true → (i : ℕ) → from ≤ i → i < from + 64 → T.same out.now [] i ≡ true }
+    ensures other { result ≡ false → (i : ℕ) × (from ≤ i) × (i < from + 64) × (T.same out.now [] i ≡ false) }
+{
+    let mut alike = true;
+    for i in from..from + BLOCK {
+        alike &= T::same(out, &[], i);
+    }
+    alike
+}
+
+// Whether the elements of an output from one on are untouched, block by block.
+fn untouched_from<T: Element>(from: usize, out: &[T]) -> bool
+    requires { from ≤ length out.now }
+    ensures alike { result ≡ true → (i : ℕ) → from ≤ i → i < length out.now → T.same out.now [] i ≡ true }
+    ensures other { result ≡ false → (i : ℕ) × (from ≤ i) × (i < length out.now) × (T.same out.now [] i ≡ false) }
+{
+    let blocks = (out.len() - from) / BLOCK;
+    for b in 0..blocks {
+        if !block_untouched(from + b * BLOCK, out) {
+            return false;
+        }
+    }
+    same_between(from + blocks * BLOCK, out.len(), out, &[])
+}
+
 // Whether each element of an output is as expected. Those beyond what is expected go by themselves: they are compared with one value, which
 // goes many at a time.
+#[inline(always)]
 fn all_same<T: Element>(out: &[T], expected: &[u8]) -> bool
     ensures { result ≡ all_below (length out.now) (T.same out.now expected.now) }
 {
@@ -214,10 +248,11 @@ fn all_same<T: Element>(out: &[T], expected: &[u8]) -> bool
     if out.len() <= count {
         return same_between(0, out.len(), out, expected);
     }
-    same_between(0, count, out, expected) && same_between(count, out.len(), out, &[])
+    same_between(0, count, out, expected) && untouched_from(count, out)
 }
 
 // Whether an output has what is expected at its start and is untouched beyond.
+#[inline(always)]
 pub fn holds<T: Element>(out: &[T], expected: &[u8]) -> bool
     ensures { result ≡ holds (length out.now) (T.count (length expected.now)) (T.same out.now expected.now) }
 {

@@ -12,8 +12,8 @@ pub returns-then-same_between : goal.returns-then-same_between
 returns-then-same_between g c =
     tested (length c.args.out.now) c.count-count.result (g.T.Element.same c.args.out.now c.args.expected.now) _
     (λ i l. c.same_between-2.ensures.alike c.if-same_between.true i (omega arith) l)
-    (λ is i from l. beyond i from ∙ c.same_between-then-same_between.ensures.alike is i from l)
-    (λ is. let (i, from, l, e) = c.same_between-then-same_between.ensures.other is in (i, from, l, beyond i from ∙ e))
+    (λ is i from l. beyond i from ∙ c.untouched_from.ensures.alike is i from l)
+    (λ is. let (i, from, l, e) = c.untouched_from.ensures.other is in (i, from, l, beyond i from ∙ e))
   where
     beyond : (i : ℕ) → c.count-count.result ≤ i → g.T.Element.same c.args.out.now c.args.expected.now i ≡ g.T.Element.same c.args.out.now [] i
     beyond i from = g.met.T.Element.beyond c.args.out.now c.args.expected.now i (omega (arith, from, c.count-count.ensures))
