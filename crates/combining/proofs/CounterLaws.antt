@@ -21,7 +21,7 @@ use Rattle.votes.proofs.VoteLaws.{votes-le}
 use Rattle.votes.proofs.CounterLaws.{adds-more, carries_same, alone, counter_at, majority-told}
 use Rattle.diversity.specs.Lanes.{lane_bit, item_count}
 use Rattle.diversity.specs.Copies.{copies_of}
-use Rattle.diversity.specs.Loops.Cycle.{cycle_bit, cycle_lane, IsRun}
+use Rattle.diversity.specs.Loops.Cycle.{cycle_bit, cycle_lane}
 use Rattle.diversity.proofs.CopyLaws.{places_of, copies_by, copies-formula}
 use Rattle.diversity.proofs.CycleLaws.{cycle-I, cycle-Q, cycle-below, lane-is, two-halves}
 use Rattle.combining.specs.Loops.Counters.{bit_sum, pair_sum}
@@ -75,14 +75,14 @@ two-counters p q r s x y e f = omega arith
 -- ---- runs
 
 -- the votes of a run, counted behind those before it
-pub run-counted : (C : ℕ) (os items start now later : List ℕ) (n q m done next : ℕ) → IsRun C os n q m → n ≡ done → next ≡ n + m → length now ≡ 512
-    → Adds 512 0 done (carries (cycle_lane C os)) items start now → Adds (length now) n m (carries (λ j. q + j)) items now later
+pub run-counted : (C : ℕ) (os items start now later : List ℕ) (n q m done next : ℕ) → ((j : ℕ) → j < m → cycle_lane C os (n + j) ≡ q + j)
+    → n ≡ done → next ≡ n + m → length now ≡ 512 → Adds 512 0 done (carries (cycle_lane C os)) items start now → Adds (length now) n m (carries (λ j. q + j)) items now later
     → Adds 512 0 next (carries (cycle_lane C os)) items start later
-run-counted C os items start now later n q m done next run here more long before votes =
+run-counted C os items start now later n q m done next in-row here more long before votes =
     rw more
     (adds-more 512 0 (carries (cycle_lane C os)) items start n m (carries (λ j. q + j)) now later
     (rw here before) (rw (zero-add n) (rw long at votes))
-    (λ j x h. carries_same (λ j. q + j) (cycle_lane C os) j (n + j) (sym (run.in_row j h)) x))
+    (λ j x h. carries_same (λ j. q + j) (cycle_lane C os) j (n + j) (sym (in-row j h)) x))
 
 -- ---- all items of symbols of C carriers under the offsets os
 

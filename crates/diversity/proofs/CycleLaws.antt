@@ -147,11 +147,11 @@ module _ (C : ℕ) (os coded : List ℕ) where
   abbrev copy : ℕ → ℕ
   copy k = get_or coded (lane_bit C os k) 0
 
-  pub run-put : (cycle out now part : List ℕ) (n q m : ℕ) → IsRun C os n q m → cycle ≡ tabulate 512 (λ q. get_or coded (cycle_bit q) 0)
-      → part ≡ take (q + m - q) (drop q cycle) → now ≡ written n copy out
+  pub run-put : (cycle out now part : List ℕ) (n q m : ℕ) → q + m ≤ 512 → ((j : ℕ) → j < m → cycle_lane C os (n + j) ≡ q + j)
+      → cycle ≡ tabulate 512 (λ q. get_or coded (cycle_bit q) 0) → part ≡ take (q + m - q) (drop q cycle) → now ≡ written n copy out
       → take n now ++ (part ++ drop (n + m - n) (drop n now)) ≡ written (n + m) copy out
   unfolding written
-  run-put cycle out now part n q m run full p e =
+  run-put cycle out now part n q m on-cycle in-row full p e =
       rw (width n, p, width q, e, take-written n copy out, drop_at (tabulate n copy) (drop n out) n (length-tabulate n copy), drop-drop m n out, copies, tabulate-append n m copy)
       (sym (append_assoc (tabulate n copy) (tabulate m (λ j. copy (n + j))) (drop (n + m) out)))
     where
@@ -160,7 +160,7 @@ module _ (C : ℕ) (os coded : List ℕ) where
 
       copies : take m (drop q cycle) ≡ tabulate m (λ j. copy (n + j))
       copies =
-          tabulate-of m _ 0 (take m (drop q cycle)) (rw full (simp (length-take, length-drop, length-tabulate) (omega (arith, run.on_cycle))))
+          tabulate-of m _ 0 (take m (drop q cycle)) (rw full (simp (length-take, length-drop, length-tabulate) (omega (arith, on-cycle))))
           (λ j l.
           get_or-take m (drop q cycle) j 0 l ∙ get_or-drop q cycle j 0
-          ∙ rw (full, lane-is C os (n + j), run.in_row j l) (get_or-tabulate 512 _ (q + j) 0 (omega (arith, run.on_cycle))))
+          ∙ rw (full, lane-is C os (n + j), in-row j l) (get_or-tabulate 512 _ (q + j) 0 (omega (arith, on-cycle))))

@@ -18,10 +18,11 @@ count_run-requires c =
 pub loop-run-preserved : goal.loop-run-preserved
 loop-run-preserved c =
     let (same, (item, next, is)) = c.in-Some.ensures.steps in
-    let inv = c.loop-run.invariant in (
+    let inv = c.loop-run.invariant in
+    let run = rw inv.0 at is in (
       same ∙ inv.0,
       search rules,
-      run-counted _ _ _ _ _ _ _ _ _ _ _ (rw inv.0 at is) item next inv.1 inv.2 c.count_run.ensures,
+      run-counted _ _ _ _ _ _ _ _ _ _ _ run.in_row item next inv.1 inv.2 c.count_run.ensures,
     )
 
 pub returns : goal.returns

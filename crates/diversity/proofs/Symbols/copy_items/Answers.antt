@@ -12,8 +12,9 @@ loop-run-init c =
 pub loop-run-preserved : goal.loop-run-preserved
 loop-run-preserved c =
     let (same, (item, next, is)) = c.in-Some.ensures.steps in
-    let inv = c.loop-run.invariant in (
+    let inv = c.loop-run.invariant in
+    let run = rw inv.0 at is in (
       same ∙ inv.0,
       search rules,
-      written_all _ _ _ _ _ (run-put _ _ _ _ _ _ _ _ _ _ (rw inv.0 at is) c.cycle_of-cycle.ensures (put-whole _ _ _ (search rules) c.put.ensures) (rw item inv.2)) (sym next),
+      written_all _ _ _ _ _ (run-put _ _ _ _ _ _ _ _ _ _ run.on_cycle run.in_row c.cycle_of-cycle.ensures (put-whole _ _ _ (search rules) c.put.ensures) (rw item inv.2)) (sym next),
     )
