@@ -3,7 +3,7 @@
 // Internal: nothing here is a public entry.
 #![tactic(auto)]
 
-ghost use Rattle.std.specs.Prelude.{◌≡◌, Bool, true, false, ◌&&◌, List, ℕ, [], ◌+◌, ◌*◌, ◌/◌, ◌<◌, ◌≤◌, eqb, length};
+ghost use Rattle.std.specs.Prelude.{◌≡◌, Bool, true, false, ◌&&◌, List, [], ℕ, ◌+◌, ◌*◌, ◌/◌, ◌<◌, ◌≤◌, eqb, length};
 ghost use Rattle.std.specs.Float.Ieee.{nan_bits, of_bits};
 ghost use Rattle.std.specs.Float.{binary64};
 ghost use native.Mathlib.Omega.{arith};
@@ -112,8 +112,13 @@ pub trait Element: Copy {
         requires { i < length out.now }
         ensures { result ≡ same out.now expected.now i };
 
-    // Beyond what is expected an element is as expected where nothing is: untouched.
-    ghost beyond: { (out : List Self) → (expected : List ℕ) → (i : ℕ) → count (length expected) ≤ i → same out expected i ≡ same out [] i };
+    // Bytes that expect of the elements beyond `expected` what it expects of them. An impl for which these are none hands out none: the
+    // elements are compared with one value then, many at a time.
+    fn beyond(expected: &[u8]) -> &[u8]
+        ensures { (out : List Self) → (i : ℕ) → count (length expected.now) ≤ i → same out expected.now i ≡ same out result.now i }
+    {
+        expected
+    }
 }
 
 impl Element for u8 {
@@ -122,8 +127,6 @@ impl Element for u8 {
     ghost count = { λ n. n };
 
     ghost same = { same_byte };
-
-    ghost beyond = { λ out expected i h. Prim.simp (le-ltb i (length expected) h, le-ltb i 0 (Prim.omega arith)) };
 
     fn untouched() -> u8 {
         UNTOUCHED
@@ -136,6 +139,12 @@ impl Element for u8 {
     fn same(out: &[u8], expected: &[u8], i: usize) -> bool {
         out[i] == byte_at(expected, i)
     }
+
+    fn beyond(_: &[u8]) -> &[u8]
+        ensures { result.now ≡ [] }
+    {
+        &[]
+    }
 }
 
 impl Element for u64 {
@@ -144,8 +153,6 @@ impl Element for u64 {
     ghost count = { λ n. n / 8 };
 
     ghost same = { same_word };
-
-    ghost beyond = { λ out expected i h. Prim.simp (lt-ltb (length expected) (8 * i + 8) (Prim.omega (arith, h)), lt-ltb 0 (8 * i + 8) (Prim.omega arith)) };
 
     fn untouched() -> u64 {
         UNTOUCHED_WORD
@@ -158,6 +165,12 @@ impl Element for u64 {
     fn same(out: &[u64], expected: &[u8], i: usize) -> bool {
         out[i] == word_at(expected, 8 * i)
     }
+
+    fn beyond(_: &[u8]) -> &[u8]
+        ensures { result.now ≡ [] }
+    {
+        &[]
+    }
 }
 
 impl Element for f64 {
@@ -166,8 +179,6 @@ impl Element for f64 {
     ghost count = { λ n. n / 8 };
 
     ghost same = { same_float };
-
-    ghost beyond = { λ out expected i h. Prim.simp (lt-ltb (length expected) (8 * i + 8) (Prim.omega (arith, h)), lt-ltb 0 (8 * i + 8) (Prim.omega arith)) };
 
     fn untouched() -> f64 {
         float_of(UNTOUCHED_WORD)
@@ -180,6 +191,30 @@ impl Element for f64 {
     fn same(out: &[f64], expected: &[u8], i: usize) -> bool {
         has_bits(out[i], word_at(expected, 8 * i))
     }
+
+    fn beyond(_: &[u8]) -> &[u8]
+        ensures { result.now ≡ [] }
+    {
+        &[]
+    }
+}
+
+// An element that, beyond what is expected, is as expected where nothing is: untouched. It is a law alone and a trait of its own, since not
+// every `Element` has it.
+pub trait Padded: Element {
+    ghost beyond: { (out : List Self) → (expected : List ℕ) → (i : ℕ) → Self.count (length expected) ≤ i → Self.same out expected i ≡ Self.same out [] i };
+}
+
+impl Padded for u8 {
+    ghost beyond = { λ out expected i h. Prim.simp (le-ltb i (length expected) h, le-ltb i 0 (Prim.omega arith)) };
+}
+
+impl Padded for u64 {
+    ghost beyond = { λ out expected i h. Prim.simp (lt-ltb (length expected) (8 * i + 8) (Prim.omega (arith, h)), lt-ltb 0 (8 * i + 8) (Prim.omega arith)) };
+}
+
+impl Padded for f64 {
+    ghost beyond = { λ out expected i h. Prim.simp (lt-ltb (length expected) (8 * i + 8) (Prim.omega (arith, h)), lt-ltb 0 (8 * i + 8) (Prim.omega arith)) };
 }
 
 // An untouched output.
@@ -207,35 +242,35 @@ fn same_between<T: Element>(from: usize, to: usize, out: &[T], expected: &[u8]) 
     true
 }
 
-// How many untouched elements are looked at before a difference counts.
+// How many elements beyond what is expected are looked at before a difference counts.
 const BLOCK: usize = 64;
 
-// Whether the elements of a block, from one on, are untouched. It goes to its end, whatever it finds, so that many go at a time.
-fn block_untouched<T: Element>(from: usize, out: &[T]) -> bool
+// Whether the elements of a block, from one on, are as expected. It goes to its end, whatever it finds, so that many go at a time.
+fn block_same<T: Element>(from: usize, out: &[T], expected: &[u8]) -> bool
     requires { from + 64 ≤ length out.now }
-    ensures alike { result ≡ true → (i : ℕ) → from ≤ i → i < from + 64 → T.same out.now [] i ≡ true }
-    ensures other { result ≡ false → (i : ℕ) × (from ≤ i) × (i < from + 64) × (T.same out.now [] i ≡ false) }
+    ensures alike { result ≡ true → (i : ℕ) → from ≤ i → i < from + 64 → T.same out.now expected.now i ≡ true }
+    ensures other { result ≡ false → (i : ℕ) × (from ≤ i) × (i < from + 64) × (T.same out.now expected.now i ≡ false) }
 {
     let mut alike = true;
     for i in from..from + BLOCK {
-        alike &= T::same(out, &[], i);
+        alike &= T::same(out, expected, i);
     }
     alike
 }
 
-// Whether the elements of an output from one on are untouched, block by block.
-fn untouched_from<T: Element>(from: usize, out: &[T]) -> bool
+// Whether the elements of an output from one on are as expected, block by block.
+fn same_from<T: Element>(from: usize, out: &[T], expected: &[u8]) -> bool
     requires { from ≤ length out.now }
-    ensures alike { result ≡ true → (i : ℕ) → from ≤ i → i < length out.now → T.same out.now [] i ≡ true }
-    ensures other { result ≡ false → (i : ℕ) × (from ≤ i) × (i < length out.now) × (T.same out.now [] i ≡ false) }
+    ensures alike { result ≡ true → (i : ℕ) → from ≤ i → i < length out.now → T.same out.now expected.now i ≡ true }
+    ensures other { result ≡ false → (i : ℕ) × (from ≤ i) × (i < length out.now) × (T.same out.now expected.now i ≡ false) }
 {
     let blocks = (out.len() - from) / BLOCK;
     for b in 0..blocks {
-        if !block_untouched(from + b * BLOCK, out) {
+        if !block_same(from + b * BLOCK, out, expected) {
             return false;
         }
     }
-    same_between(from + blocks * BLOCK, out.len(), out, &[])
+    same_between(from + blocks * BLOCK, out.len(), out, expected)
 }
 
 // Whether each element of an output is as expected. Those beyond what is expected go by themselves: they are compared with one value, which
@@ -248,7 +283,7 @@ fn all_same<T: Element>(out: &[T], expected: &[u8]) -> bool
     if out.len() <= count {
         return same_between(0, out.len(), out, expected);
     }
-    same_between(0, count, out, expected) && untouched_from(count, out)
+    same_between(0, count, out, expected) && same_from(count, out, T::beyond(expected))
 }
 
 // Whether an output has what is expected at its start and is untouched beyond.
@@ -280,3 +315,6 @@ pub fn compared(a: Result<usize, Refusal>, r: Record, held: bool) -> Given
         agrees: are_expected(number, value, second, r) && held,
     }
 }
+
+#[cfg(test)]
+mod tests;

@@ -1,7 +1,7 @@
--- `record::untouched_from` meets its contract. The invariant: the elements of the blocks before b are untouched. Assumes nothing.
+-- `record::same_from` meets its contract. The invariant: the elements of the blocks before b are as expected. Assumes nothing.
 use Rattle.std.proofs.Common.{◌+◌, ◌*◌, arith}
 use Rattle.bits.proofs.NumberLaws.{lt-cases}
-use Rattle.record.proofs.untouched_from.Goals as goal
+use Rattle.record.proofs.same_from.Goals as goal
 
 pub loop-b-init : goal.loop-b-init
 loop-b-init g c = λ k low high. absurd (omega (arith, low, high))
@@ -10,7 +10,7 @@ pub loop-b-preserved : goal.loop-b-preserved
 loop-b-preserved g c =
     λ k low high. lt-cases k (c.args.from + c.loop-b.b * 64)
     (λ l. c.loop-b.invariant k low l)
-    (λ l. c.block_untouched.ensures.alike c.if-not-block_untouched.false k (omega (arith, l)) (omega (arith, high)))
+    (λ l. c.block_same.ensures.alike c.if-not-block_same.false k (omega (arith, l)) (omega (arith, high)))
 
 pub returns-clause-alike : goal.returns-clause-alike
 returns-clause-alike g c =

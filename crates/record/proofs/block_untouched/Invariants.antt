@@ -1,7 +1,0 @@
--- `record::block_untouched` meets its contract. The invariant: what is found so far tells of the elements before i. Assumes nothing.
-use Rattle.std.proofs.Common.{[]}
-use Rattle.record.proofs.ExpectedLaws.{Told}
-use Rattle.record.proofs.block_untouched.Given as goal
-
-abbrev pub invariant-loop-i : goal.invariant-loop-i
-invariant-loop-i g l = Told l.from l.i (g.T.Element.same l.out []) l.alike
