@@ -76,8 +76,8 @@ two-counters p q r s x y e f = omega arith
 
 -- the votes of a run, counted behind those before it
 pub run-counted : (C : ℕ) (os items start now later : List ℕ) (n q m done next : ℕ) → ((j : ℕ) → j < m → cycle_lane C os (n + j) ≡ q + j)
-    → n ≡ done → next ≡ n + m → length now ≡ 512 → Adds 512 0 done (carries (cycle_lane C os)) items start now → Adds (length now) n m (carries (λ j. q + j)) items now later
-    → Adds 512 0 next (carries (cycle_lane C os)) items start later
+    → n ≡ done → next ≡ n + m → length now ≡ 512 → Adds 512 0 done (carries (cycle_lane C os)) items start now
+    → Adds (length now) n m (carries (λ j. q + j)) items now later → Adds 512 0 next (carries (cycle_lane C os)) items start later
 run-counted C os items start now later n q m done next in-row here more long before votes =
     rw more
     (adds-more 512 0 (carries (cycle_lane C os)) items start n m (carries (λ j. q + j)) now later

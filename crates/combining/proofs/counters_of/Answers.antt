@@ -1,5 +1,5 @@
 -- `combining::counters_of` meets its contract. The invariant: the items of the runs passed are counted. Assumes nothing.
-use Rattle.std.proofs.Common.{◌≡◌, ◌∙◌, arith, rules}
+use Rattle.std.proofs.Common.{◌≡◌, arith, rules}
 use Rattle.votes.proofs.CounterLaws.{adds_none}
 use Rattle.combining.proofs.CounterLaws.{run-counted}
 use Rattle.combining.proofs.counters_of.Goals as goal
@@ -11,19 +11,15 @@ loop-run-init c =
 
 pub count_run-requires : goal.count_run-requires
 count_run-requires c =
-    let (same, (item, next, is)) = c.in-Some.ensures.steps in
-    let run = rw c.loop-run.invariant.0 at is in
-    (omega (arith, run.within), omega (arith, run.on_cycle, c.loop-run.invariant.1))
+    let inv = c.loop-run.invariant in
+    let (same, (item, next, run)) = rw inv.0 at c.in-Some.ensures.steps in
+    (omega (arith, run.within), omega (arith, run.on_cycle, inv.1))
 
 pub loop-run-preserved : goal.loop-run-preserved
 loop-run-preserved c =
-    let (same, (item, next, is)) = c.in-Some.ensures.steps in
     let inv = c.loop-run.invariant in
-    let run = rw inv.0 at is in (
-      same ∙ inv.0,
-      search rules,
-      run-counted _ _ _ _ _ _ _ _ _ _ _ run.in_row item next inv.1 inv.2 c.count_run.ensures,
-    )
+    let (same, (item, next, run)) = rw inv.0 at c.in-Some.ensures.steps in
+    (same, search rules, run-counted _ _ _ _ _ _ _ _ _ _ _ run.in_row item next inv.1 inv.2 c.count_run.ensures)
 
 pub returns : goal.returns
 returns c =

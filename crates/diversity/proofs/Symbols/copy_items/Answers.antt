@@ -1,5 +1,5 @@
 -- `diversity::Symbols::copy_items` meets its contract. The invariant: the items of the runs passed are written. Assumes nothing.
-use Rattle.std.proofs.Common.{◌≡◌, refl, sym, ◌∙◌, arith, rules}
+use Rattle.std.proofs.Common.{◌≡◌, refl, sym, arith, rules}
 use Rattle.bits.proofs.ListLaws.{written_none, written_all, put-whole}
 use Rattle.diversity.proofs.CycleLaws.{run-put}
 use Rattle.diversity.proofs.Symbols.copy_items.Goals as goal
@@ -11,10 +11,10 @@ loop-run-init c =
 
 pub loop-run-preserved : goal.loop-run-preserved
 loop-run-preserved c =
-    let (same, (item, next, is)) = c.in-Some.ensures.steps in
     let inv = c.loop-run.invariant in
-    let run = rw inv.0 at is in (
-      same ∙ inv.0,
+    let (same, (item, next, run)) = rw inv.0 at c.in-Some.ensures.steps in
+    let copies = put-whole _ _ _ (search rules) c.put.ensures in (
+      same,
       search rules,
-      written_all _ _ _ _ _ (run-put _ _ _ _ _ _ _ _ _ _ run.on_cycle run.in_row c.cycle_of-cycle.ensures (put-whole _ _ _ (search rules) c.put.ensures) (rw item inv.2)) (sym next),
+      written_all _ _ _ _ _ (run-put _ _ _ _ _ _ _ _ _ _ run.on_cycle run.in_row c.cycle_of-cycle.ensures copies (rw item inv.2)) (sym next),
     )
