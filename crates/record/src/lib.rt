@@ -112,8 +112,7 @@ pub trait Element: Copy {
         requires { i < length out.now }
         ensures { result ≡ same out.now expected.now i };
 
-    // Bytes that expect of the elements beyond `expected` what it expects of them. An impl for which these are none hands out none: the
-    // elements are compared with one value then, many at a time.
+    // Bytes that expect the same as `expected` of the elements beyond it: `expected` itself, or none, where an impl can show it of none.
     fn beyond(expected: &[u8]) -> &[u8]
         ensures { (out : List Self) → (i : ℕ) → count (length expected.now) ≤ i → same out expected.now i ≡ same out result.now i }
     {
@@ -199,21 +198,21 @@ impl Element for f64 {
     }
 }
 
-// An element that, beyond what is expected, is as expected where nothing is: untouched. It is a law alone and a trait of its own, since not
-// every `Element` has it.
-pub trait Padded: Element {
+// An element that, beyond what is expected, is as expected where nothing is: untouched. A law alone, in a trait of its own, since not every
+// `Element` has it.
+pub trait UntouchedBeyond: Element {
     ghost beyond: { (out : List Self) → (expected : List ℕ) → (i : ℕ) → Self.count (length expected) ≤ i → Self.same out expected i ≡ Self.same out [] i };
 }
 
-impl Padded for u8 {
+impl UntouchedBeyond for u8 {
     ghost beyond = { λ out expected i h. Prim.simp (le-ltb i (length expected) h, le-ltb i 0 (Prim.omega arith)) };
 }
 
-impl Padded for u64 {
+impl UntouchedBeyond for u64 {
     ghost beyond = { λ out expected i h. Prim.simp (lt-ltb (length expected) (8 * i + 8) (Prim.omega (arith, h)), lt-ltb 0 (8 * i + 8) (Prim.omega arith)) };
 }
 
-impl Padded for f64 {
+impl UntouchedBeyond for f64 {
     ghost beyond = { λ out expected i h. Prim.simp (lt-ltb (length expected) (8 * i + 8) (Prim.omega (arith, h)), lt-ltb 0 (8 * i + 8) (Prim.omega arith)) };
 }
 
@@ -273,8 +272,8 @@ fn same_from<T: Element>(from: usize, out: &[T], expected: &[u8]) -> bool
     same_between(from + blocks * BLOCK, out.len(), out, expected)
 }
 
-// Whether each element of an output is as expected. Those beyond what is expected go by themselves: they are compared with one value, which
-// goes many at a time.
+// Whether each element of an output is as expected. Those beyond what is expected go by themselves, by the bytes of `beyond`: bytes, words and
+// floats are compared with one value there, which goes many at a time.
 #[inline(always)]
 fn all_same<T: Element>(out: &[T], expected: &[u8]) -> bool
     ensures { result ≡ all_below (length out.now) (T.same out.now expected.now) }

@@ -5,7 +5,7 @@ ghost use Rattle.std.specs.Prelude.{ℕ, ◌-◌, Bool, eqb, min, length, slice_
 
 use super::*;
 
-// Beyond what is expected one is as expected if it repeats the last byte of that.
+// Beyond what is expected one is as expected if it repeats the last byte of that, or is 0 where nothing is.
 impl Element for u16 {
     ghost untouched = { 0 };
 
